@@ -1,0 +1,11 @@
+-- How a count of faults, misses or longs may go over one call. Counts are 64 bits wide, and one that has
+-- reached its end stays there.
+use Rattle.std.specs.Prelude.{◌≡◌, ℕ, ◌-◌, ◌^◌, ◌<◌, ◌≤◌, ◌⊎◌}
+
+-- the count is as it was
+abbrev pub Same : ℕ → ℕ → Type 0
+Same old new = new ≡ old
+
+-- the count did not fall, and it rose or stands at its end
+abbrev pub Rises : ℕ → ℕ → Type 0
+Rises old new = (old ≤ new) × ((old < new) ⊎ (new ≡ 2 ^ 64 - 1))

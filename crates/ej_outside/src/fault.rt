@@ -1,0 +1,3 @@
+/// The outside failed: a read, a write or a put did not come about.
+#[derive(Clone, Copy, Debug, PartialEq, Eq)]
+pub struct Failed;
