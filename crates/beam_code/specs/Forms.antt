@@ -1,0 +1,60 @@
+-- The row of forms of a module, and its text: each form in canonical print, a full stop and a newline.
+use Rattle.std.specs.Prelude.{ℕ, pos, List, [], ◌∷◌, ◌++◌, map, codes, None}
+use Rattle.std.specs.List.{flat_map}
+use Rattle.ej_term.specs.declared.asm_term.AsmTerm.{AsmTerm}
+use Rattle.ej_term.specs.declared.asm_term.AsmTerm.TheVariants as term
+use Rattle.ej_term.specs.Print.{print}
+use Rattle.beam_code.specs.declared.instr.Instr.{Instr}
+use Rattle.beam_code.specs.declared.module.Function.{Function}
+use Rattle.beam_code.specs.declared.module.Module.{Module}
+use Rattle.beam_code.specs.Keys.{Key}
+use Rattle.beam_code.specs.Opcode.{Opcode, Label, Line, FuncInfo, Return, Unknown, opcode_of}
+
+abbrev pub number : ℕ → AsmTerm
+number n = term.Int (pos n)
+
+abbrev pub list : List AsmTerm → AsmTerm
+list parts = term.List parts None
+
+-- `{tag,..}`
+abbrev pub tagged : List ℕ → List AsmTerm → AsmTerm
+tagged tag parts = term.Tuple (term.Atom tag ∷ parts)
+
+abbrev pub opcode : Instr → Opcode
+opcode i = opcode_of i.row i.operands
+
+-- an instruction's form
+abbrev pub instruction_form : Opcode → AsmTerm
+instruction_form (Label n) = tagged (codes "label") (number n ∷ [])
+instruction_form Line = tagged (codes "line") (list [] ∷ [])
+instruction_form (FuncInfo owner name arity) =
+    tagged (codes "func_info") (tagged (codes "atom") (term.Atom owner ∷ []) ∷ tagged (codes "atom") (term.Atom name ∷ []) ∷ number arity ∷ [])
+instruction_form Return = term.Atom (codes "return")
+instruction_form Unknown = term.Tuple []
+
+-- a function's form, and those of its instructions
+abbrev pub function_forms : Function → List AsmTerm
+function_forms f =
+    tagged (codes "function") (term.Atom f.name ∷ number f.arity ∷ number f.entry ∷ [])
+    ∷ map (λ i. instruction_form (opcode i)) f.code
+
+-- `{name,arity}`
+abbrev pub export_form : Key → AsmTerm
+export_form key = term.Tuple (term.Atom key.0 ∷ number key.1 ∷ [])
+
+-- the forms of a module, with this number in its form `{labels,N}`
+abbrev pub forms : ℕ → Module → List AsmTerm
+forms labels m =
+    tagged (codes "module") (term.Atom m.name ∷ [])
+    ∷ tagged (codes "exports") (list (map export_form m.exports) ∷ [])
+    ∷ tagged (codes "attributes") (list [] ∷ [])
+    ∷ tagged (codes "labels") (number labels ∷ [])
+    ∷ flat_map function_forms m.functions
+
+-- a form as a line of text
+abbrev pub line_of : AsmTerm → List ℕ
+line_of form = print form ++ codes "." ++ 10 ∷ []
+
+-- the text of a module
+abbrev pub text : ℕ → Module → List ℕ
+text labels m = flat_map line_of (forms labels m)

@@ -1,0 +1,41 @@
+-- The plainest source: the text of a module in canonical print, of the instructions that are read so far.
+use Rattle.std.specs.Prelude.{◌≡◌, ℕ, ◌<◌, ◌^◌, Bool, true, false, nat_le, ◌&&◌, List, [], ◌∷◌, length, All}
+use Rattle.std.specs.List.{list_all}
+use Rattle.ej_term.specs.Atoms.{is_plain}
+use Rattle.beam_code.specs.declared.module.Function.{Function}
+use Rattle.beam_code.specs.declared.module.Module.{Module}
+use Rattle.beam_code.specs.Forms.{text}
+use Rattle.beam_code.specs.LabelRules.{opcodes, meets_label_rules}
+use Rattle.beam_code.specs.Opcode.{Opcode, Label, Line, FuncInfo, Return}
+use Rattle.beam_code.specs.Slots.{WellSlotted}
+use Rattle.beam_code.specs.Weights.{fits}
+
+-- an atom without quotes, of at most 255 characters
+abbrev pub is_thin_name : List ℕ → Bool
+is_thin_name name = is_plain name && nat_le (length name) 255
+
+-- the names of the module and its functions, which are all that its text has
+abbrev pub has_thin_names : Module → Bool
+has_thin_names m = is_thin_name m.name && list_all (λ f. is_thin_name f.name) m.functions
+
+-- a label, at most one `line`, `func_info`, a label and `return`
+abbrev pub is_return_body : List Opcode → Bool
+is_return_body (Label n ∷ FuncInfo owner name arity ∷ Label entry ∷ Return ∷ []) = true
+is_return_body (Label n ∷ Line ∷ FuncInfo owner name arity ∷ Label entry ∷ Return ∷ []) = true
+is_return_body _ = false
+
+abbrev pub returns_at_once : List Function → Bool
+returns_at_once (f ∷ []) = is_return_body (opcodes f)
+returns_at_once _ = false
+
+-- The bytes are the thin text of the module, which meets every rule. So far it has one function, which
+-- returns at once.
+pub record Thin (bytes : List ℕ) (m : Module) : Type 0 where
+  pub labels : ℕ
+  pub in_range : labels < 2 ^ 32
+  pub is_text : bytes ≡ text labels m
+  pub names : has_thin_names m ≡ true
+  pub one_function : returns_at_once m.functions ≡ true
+  pub label_rules : meets_label_rules m ≡ true
+  pub slots : All WellSlotted m.functions
+  pub sizes : fits m ≡ true
