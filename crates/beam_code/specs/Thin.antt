@@ -1,6 +1,6 @@
 -- The plainest source: the text of a module in canonical print, of the instructions that are read so far.
-use Rattle.std.specs.Prelude.{◌≡◌, ℕ, ◌<◌, ◌^◌, Bool, true, false, nat_le, ◌&&◌, List, [], ◌∷◌, length, All}
-use Rattle.std.specs.List.{list_all}
+use Rattle.std.specs.Prelude.{◌≡◌, ℕ, ◌<◌, ◌^◌, Bool, true, false, nat_le, ◌&&◌, List, [], ◌∷◌, length}
+use Rattle.std.specs.List.{list_all, AllByRecursion}
 use Rattle.ej_term.specs.Atoms.{is_plain}
 use Rattle.beam_code.specs.declared.module.Function.{Function}
 use Rattle.beam_code.specs.declared.module.Module.{Module}
@@ -28,14 +28,17 @@ abbrev pub returns_at_once : List Function → Bool
 returns_at_once (f ∷ []) = is_return_body (opcodes f)
 returns_at_once _ = false
 
--- The bytes are the thin text of the module, which meets every rule. So far it has one function, which
--- returns at once.
+-- A module that is compiled: it meets every rule. So far it has one function, which returns at once.
+pub record Accepted (m : Module) : Type 0 where
+  pub names : has_thin_names m ≡ true
+  pub one_function : returns_at_once m.functions ≡ true
+  pub label_rules : meets_label_rules m ≡ true
+  pub slots : AllByRecursion WellSlotted m.functions
+  pub sizes : fits m ≡ true
+
+-- the bytes are the text of the module, with some number in its form `{labels,N}`, and the module is accepted
 pub record Thin (bytes : List ℕ) (m : Module) : Type 0 where
   pub labels : ℕ
   pub in_range : labels < 2 ^ 32
   pub is_text : bytes ≡ text labels m
-  pub names : has_thin_names m ≡ true
-  pub one_function : returns_at_once m.functions ≡ true
-  pub label_rules : meets_label_rules m ≡ true
-  pub slots : All WellSlotted m.functions
-  pub sizes : fits m ≡ true
+  pub accepted : Accepted m

@@ -1,0 +1,9 @@
+pub mod Mangle
+pub mod ClassFile
+pub mod ClassProfile
+pub mod Typing
+pub mod Linking
+pub mod Emitted
+pub mod Source
+pub mod Words
+pub mod Answers
