@@ -10,6 +10,7 @@ use std::alloc::{AllocError, Global};
 pub fn read_thin(alloc: Global, bytes: &[u8]) -> Result<Option<Module>, AllocError>
     ensures { IfOk result (ReadsThin bytes.now) }
 {
-    let _ = (alloc, bytes);
+    let _ = alloc;
+    let _ = bytes.len();
     Err(AllocError)
 }
