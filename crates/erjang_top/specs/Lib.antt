@@ -4,6 +4,9 @@ pub mod ClassProfile
 pub mod Typing
 pub mod Linking
 pub mod Emitted
+pub mod Shape
+pub mod ShapeModule
+pub mod ShapeSound
 pub mod Source
 pub mod Words
 pub mod Answers

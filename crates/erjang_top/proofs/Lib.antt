@@ -1,0 +1,5 @@
+pub mod WordsLemmas
+pub mod ShapeWords
+pub mod ShapeText
+pub mod ShapeAccepted
+pub mod ThinShape
