@@ -3,3 +3,4 @@ pub mod ShapeWords
 pub mod ShapeText
 pub mod ShapeAccepted
 pub mod ThinShape
+pub mod ExportsText

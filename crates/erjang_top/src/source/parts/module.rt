@@ -1,0 +1,113 @@
+//! Makes the module of a text.
+
+ghost use Rattle.std.specs.Prelude.{◌≡◌, ◌∷◌, [], ◌++◌, map, IfOk, replicate};
+ghost use Rattle.std.specs.Str.{chars};
+ghost use Rattle.beam_code.specs.Forms.{opcode};
+ghost use Rattle.beam_code.specs.Opcode.{Label, Line, FuncInfo, Return};
+ghost use Rattle.erjang_top.specs.ShapeModule.{shape_code, IsFunction, HasShape};
+ghost use Rattle.erjang_top.specs.ShapeSound.{IsSound};
+
+use crate::source::parts::Parts;
+use beam_code::{Function, Instr, Module, Operand, Src, rows};
+use ej_term::Text;
+use sqlite_items::Items;
+use std::alloc::{AllocError, Global};
+
+impl Parts {
+    /// The module.
+    pub(crate) fn module(&self, alloc: Global) -> Result<Module, AllocError>
+        requires { IsSound self.now }
+        ensures { IfOk result (λ m. HasShape self.now m) }
+    {
+        let mut functions = Items::new(alloc);
+        functions.push(self.function(alloc)?)?;
+        Ok(Module {
+            name: Text::make(alloc, self.owner.as_str())?,
+            exports: exports(alloc, self.name.as_str(), self.arity, self.exports)?,
+            functions,
+        })
+    }
+}
+
+impl Parts {
+    fn function(&self, alloc: Global) -> Result<Function, AllocError>
+        requires { IsSound self.now }
+        ensures { IfOk result (IsFunction self.now) }
+    {
+        Ok(Function {
+            name: Text::make(alloc, self.name.as_str())?,
+            arity: self.arity,
+            entry: self.entry,
+            code: self.code(alloc)?,
+        })
+    }
+
+    fn code(&self, alloc: Global) -> Result<Items<Instr>, AllocError>
+        requires { IsSound self.now }
+        ensures { IfOk result (λ code. map opcode code ≡ shape_code self.now) }
+    {
+        let mut code = Items::new(alloc);
+        code.push(label(alloc, self.label)?)?;
+        if self.has_line {
+            code.push(line(alloc))?;
+        }
+        code.push(func_info(alloc, self.owner.as_str(), self.name.as_str(), self.arity)?)?;
+        code.push(label(alloc, self.entry)?)?;
+        code.push(return_(alloc))?;
+        Ok(code)
+    }
+}
+
+// So many exports of one function.
+fn exports(alloc: Global, name: &str, arity: u8, count: usize) -> Result<Items<(Text, u8)>, AllocError>
+    ensures { IfOk result (λ exports. exports ≡ replicate count (chars name.now, arity)) }
+{
+    let mut exports = Items::new(alloc);
+    for _at in 0..count {
+        exports.push((Text::make(alloc, name)?, arity))?;
+    }
+    Ok(exports)
+}
+
+fn label(alloc: Global, label: u32) -> Result<Instr, AllocError>
+    ensures { IfOk result (λ i. opcode i ≡ Label label) }
+{
+    let mut operands = Items::new(alloc);
+    operands.push(Operand::Count(label))?;
+    Ok(Instr {
+        row: rows::LABEL,
+        operands,
+    })
+}
+
+fn func_info(alloc: Global, owner: &str, name: &str, arity: u8) -> Result<Instr, AllocError>
+    ensures { IfOk result (λ i. opcode i ≡ FuncInfo (chars owner.now) (chars name.now) arity) }
+{
+    let mut operands = Items::new(alloc);
+    operands.push(Operand::Src(Src::Atom(Text::make(alloc, owner)?)))?;
+    operands.push(Operand::Src(Src::Atom(Text::make(alloc, name)?)))?;
+    operands.push(Operand::Count(u32::from(arity)))?;
+    Ok(Instr {
+        row: rows::FUNC_INFO,
+        operands,
+    })
+}
+
+// `line` or `return`
+fn line(alloc: Global) -> Instr
+    ensures { opcode result ≡ Line }
+{
+    Instr {
+        row: rows::LINE,
+        operands: Items::new(alloc),
+    }
+}
+
+fn return_(alloc: Global) -> Instr
+    ensures { opcode result ≡ Return }
+{
+    Instr {
+        row: rows::RETURN,
+        operands: Items::new(alloc),
+    }
+}
