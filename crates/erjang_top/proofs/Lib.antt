@@ -4,3 +4,4 @@ pub mod ShapeText
 pub mod ShapeAccepted
 pub mod ThinShape
 pub mod ExportsText
+pub mod ModuleLemmas

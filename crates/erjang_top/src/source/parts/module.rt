@@ -1,10 +1,10 @@
 //! Makes the module of a text.
 
-ghost use Rattle.std.specs.Prelude.{◌≡◌, ◌∷◌, [], ◌++◌, map, IfOk, replicate};
-ghost use Rattle.std.specs.Str.{chars};
+ghost use Rattle.std.specs.Prelude.{◌≡◌, ◌∷◌, [], ◌++◌, map, IfOk, OnOk, replicate, true};
 ghost use Rattle.beam_code.specs.Forms.{opcode};
 ghost use Rattle.beam_code.specs.Opcode.{Label, Line, FuncInfo, Return};
-ghost use Rattle.erjang_top.specs.ShapeModule.{shape_code, IsFunction, HasShape};
+ghost use Rattle.beam_code.specs.Thin.{is_thin_name};
+ghost use Rattle.erjang_top.specs.ShapeModule.{line_code, shape_code, IsFunction, HasShape};
 ghost use Rattle.erjang_top.specs.ShapeSound.{IsSound};
 
 use crate::source::parts::Parts;
@@ -22,7 +22,7 @@ impl Parts {
         let mut functions = Items::new(alloc);
         functions.push(self.function(alloc)?)?;
         Ok(Module {
-            name: Text::make(alloc, self.owner.as_str())?,
+            name: plain_text(alloc, self.owner.as_str())?,
             exports: exports(alloc, self.name.as_str(), self.arity, self.exports)?,
             functions,
         })
@@ -35,7 +35,7 @@ impl Parts {
         ensures { IfOk result (IsFunction self.now) }
     {
         Ok(Function {
-            name: Text::make(alloc, self.name.as_str())?,
+            name: plain_text(alloc, self.name.as_str())?,
             arity: self.arity,
             entry: self.entry,
             code: self.code(alloc)?,
@@ -48,9 +48,7 @@ impl Parts {
     {
         let mut code = Items::new(alloc);
         code.push(label(alloc, self.label)?)?;
-        if self.has_line {
-            code.push(line(alloc))?;
-        }
+        push_line(alloc, &mut code, self.has_line)?;
         code.push(func_info(alloc, self.owner.as_str(), self.name.as_str(), self.arity)?)?;
         code.push(label(alloc, self.entry)?)?;
         code.push(return_(alloc))?;
@@ -58,13 +56,33 @@ impl Parts {
     }
 }
 
+// The `line`, where there is one.
+fn push_line(alloc: Global, code: &mut Items<Instr>, has_line: bool) -> Result<(), AllocError>
+    ensures { OnOk result (map opcode code.new ≡ map opcode code.old ++ line_code has_line) }
+{
+    if has_line {
+        code.push(line(alloc))?;
+    }
+    Ok(())
+}
+
+// A name whose characters are its bytes.
+fn plain_text(alloc: Global, name: &str) -> Result<Text, AllocError>
+    requires { is_thin_name name.now ≡ true }
+    ensures { IfOk result (λ text. text ≡ name.now) }
+{
+    let text = Text::make(alloc, name)?;
+    Ok(text)
+}
+
 // So many exports of one function.
 fn exports(alloc: Global, name: &str, arity: u8, count: usize) -> Result<Items<(Text, u8)>, AllocError>
-    ensures { IfOk result (λ exports. exports ≡ replicate count (chars name.now, arity)) }
+    requires { is_thin_name name.now ≡ true }
+    ensures { IfOk result (λ exports. exports ≡ replicate count (name.now, arity)) }
 {
     let mut exports = Items::new(alloc);
     for _at in 0..count {
-        exports.push((Text::make(alloc, name)?, arity))?;
+        exports.push((plain_text(alloc, name)?, arity))?;
     }
     Ok(exports)
 }
@@ -81,11 +99,13 @@ fn label(alloc: Global, label: u32) -> Result<Instr, AllocError>
 }
 
 fn func_info(alloc: Global, owner: &str, name: &str, arity: u8) -> Result<Instr, AllocError>
-    ensures { IfOk result (λ i. opcode i ≡ FuncInfo (chars owner.now) (chars name.now) arity) }
+    requires owner { is_thin_name owner.now ≡ true }
+    requires name { is_thin_name name.now ≡ true }
+    ensures { IfOk result (λ i. opcode i ≡ FuncInfo owner.now name.now arity) }
 {
     let mut operands = Items::new(alloc);
-    operands.push(Operand::Src(Src::Atom(Text::make(alloc, owner)?)))?;
-    operands.push(Operand::Src(Src::Atom(Text::make(alloc, name)?)))?;
+    operands.push(Operand::Src(Src::Atom(plain_text(alloc, owner)?)))?;
+    operands.push(Operand::Src(Src::Atom(plain_text(alloc, name)?)))?;
     operands.push(Operand::Count(u32::from(arity)))?;
     Ok(Instr {
         row: rows::FUNC_INFO,
