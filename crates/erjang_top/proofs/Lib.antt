@@ -5,3 +5,4 @@ pub mod ShapeAccepted
 pub mod ThinShape
 pub mod ExportsText
 pub mod ModuleLemmas
+pub mod ShapeWordsList

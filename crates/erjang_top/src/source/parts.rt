@@ -1,7 +1,8 @@
 //! What a text of a module with one function that returns at once is made of.
 
-ghost use Rattle.std.specs.Prelude.{◌≡◌, ◌↔◌, IsTrue, IfOk, Some, map, string_bytes};
-ghost use Rattle.erjang_top.specs.Shape.{Shape, InRange, shape_words};
+ghost use Rattle.std.specs.Prelude.{◌≡◌, ℕ, ◌<◌, ◌≤◌, ◌^◌, ◌↔◌, IsTrue, IfOk, Some, length, map, string_bytes};
+ghost use Rattle.erjang_top.specs.Shape.{Shape, InRange, shape_words, tail_words};
+ghost use Rattle.std.specs.Fmt.{decimal};
 ghost use Rattle.erjang_top.specs.ShapeSound.{IsSound};
 
 mod module;
@@ -61,22 +62,57 @@ pub(crate) fn take_apart(alloc: Global, words: &[String]) -> Result<Option<Parts
     let exports = (words.len() - FIXED_WORDS) / 2;
     let has_line = words.len() % 2 == 0;
     let (head, tail) = words.split_at(FIRST_WORDS + 2 * exports);
-    let (Ok(labels), Ok(arity), Ok(entry), Ok(label)) = (
-        tail[2].as_str().parse::<u32>(),
-        tail[5].as_str().parse::<u8>(),
-        tail[6].as_str().parse::<u32>(),
-        tail[8].as_str().parse::<u32>(),
-    ) else {
+    let Some(numbers) = read_numbers(tail) else {
         return Ok(None);
     };
     Ok(Some(Parts {
         owner: head[1].clone()?,
         exports,
-        labels,
+        labels: numbers.labels,
         name: tail[4].clone()?,
-        arity,
-        label,
+        arity: numbers.arity,
+        label: numbers.label,
         has_line,
-        entry,
+        entry: numbers.entry,
     }))
+}
+
+/// The numbers of such a text.
+#[derive(Clone, Copy)]
+struct Numbers {
+    labels: u32,
+    arity: u8,
+    entry: u32,
+    label: u32,
+}
+
+// The numbers among the words from `attributes` on.
+fn read_numbers(words: &[String]) -> Option<Numbers>
+    requires { 9 ≤ length words.now }
+    ensures { (s : Shape) → InRange s → map string_bytes words.now ≡ tail_words s → result ≡ Some (record { labels = s.labels; arity = s.arity; entry = s.entry; label = s.label }) }
+{
+    Some(Numbers {
+        labels: four_bytes(&words[2])?,
+        arity: one_byte(&words[5])?,
+        entry: four_bytes(&words[6])?,
+        label: four_bytes(&words[8])?,
+    })
+}
+
+fn four_bytes(word: &String) -> Option<u32>
+    ensures { (n : ℕ) → n < 2 ^ 32 → string_bytes word.now ≡ decimal n → result ≡ Some n }
+{
+    match word.as_str().parse::<u32>() {
+        Ok(n) => Some(n),
+        Err(_) => None,
+    }
+}
+
+fn one_byte(word: &String) -> Option<u8>
+    ensures { (n : ℕ) → n < 2 ^ 8 → string_bytes word.now ≡ decimal n → result ≡ Some n }
+{
+    match word.as_str().parse::<u8>() {
+        Ok(n) => Some(n),
+        Err(_) => None,
+    }
 }
