@@ -6,3 +6,4 @@ pub mod ThinShape
 pub mod ExportsText
 pub mod ModuleLemmas
 pub mod ShapeWordsList
+pub mod ReadLemmas

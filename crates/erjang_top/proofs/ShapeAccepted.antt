@@ -147,10 +147,13 @@ shape-accepted s m h r sound = record {
     enters' = rw (at-entry s.entry s.arity) (below-entry s.arity)
 
     well_slotted : WellSlotted one
-    well_slotted = (slots', record {
-      enters = subst (λ n. GoesTo slots' (entry_state n) one.entry) (sym f.arity) (subst (GoesTo slots' (entry_state s.arity)) (sym f.entry) enters');
-      walks = subst (Walk slots' None) (sym f.code) (walk-shape s sound.arity sound.labels);
-    })
+    well_slotted = (
+      slots',
+      record {
+        enters = subst (λ n. GoesTo slots' (entry_state n) one.entry) (sym f.arity) (subst (GoesTo slots' (entry_state s.arity)) (sym f.entry) enters');
+        walks = subst (Walk slots' None) (sym f.code) (walk-shape s sound.arity sound.labels);
+      },
+    )
 
     light : nat_le (weight one) 32767 ≡ true
     light =

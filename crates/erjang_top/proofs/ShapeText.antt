@@ -141,7 +141,7 @@ body-lines s =
 shape-lines : (s : Shape) → flat_map line_of (one_forms s.labels s.owner (replicate s.exports (s.name, s.arity)) s.name s.arity s.entry (shape_code s)) ≡ shape_text s
 shape-lines s =
     rw (module-line s.owner, exports-line s, attributes-line, labels-line s.labels, function-line s.name s.arity s.entry, body-lines s) (regroup (form_line (codes "{module," ++ s.owner ++ codes "}")) (form_line (codes "{exports,[" ++ exports_text s s.exports ++ codes "]}")) (form_line (codes "{attributes,[]}"))
-      (form_line (codes "{labels," ++ decimal s.labels ++ codes "}")) (form_line (codes "{function," ++ s.name ++ codes "," ++ decimal s.arity ++ codes "," ++ decimal s.entry ++ codes "}")) (body_text s))
+    (form_line (codes "{labels," ++ decimal s.labels ++ codes "}")) (form_line (codes "{function," ++ s.name ++ codes "," ++ decimal s.arity ++ codes "," ++ decimal s.entry ++ codes "}")) (body_text s))
   where
     regroup : (a b c d e f : List ℕ) → a ++ (b ++ (c ++ (d ++ (e ++ f)))) ≡ a ++ b ++ c ++ d ++ e ++ f
     regroup a b c d e f = simp append_assoc

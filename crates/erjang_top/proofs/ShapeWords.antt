@@ -35,12 +35,12 @@ nested s = codes "{module," ++ (s.owner ++ (125 ∷ after_owner s))
 -- the pieces of the text, in any grouping
 regroup : (a1 o z x1 es x2 at y1 n f1 nm c ar en lb lab ln fi fj fk ret d nl : List ℕ)
     → ((a1 ++ o ++ z) ++ d ++ nl) ++ ((x1 ++ es ++ x2) ++ d ++ nl) ++ (at ++ d ++ nl) ++ ((y1 ++ n ++ z) ++ d ++ nl)
-        ++ ((f1 ++ nm ++ c ++ ar ++ c ++ en ++ z) ++ d ++ nl)
-        ++ (((lb ++ lab ++ z) ++ d ++ nl) ++ ln ++ ((fi ++ o ++ fj ++ nm ++ fk ++ ar ++ z) ++ d ++ nl) ++ ((lb ++ en ++ z) ++ d ++ nl) ++ (ret ++ d ++ nl))
+    ++ ((f1 ++ nm ++ c ++ ar ++ c ++ en ++ z) ++ d ++ nl)
+    ++ (((lb ++ lab ++ z) ++ d ++ nl) ++ ln ++ ((fi ++ o ++ fj ++ nm ++ fk ++ ar ++ z) ++ d ++ nl) ++ ((lb ++ en ++ z) ++ d ++ nl) ++ (ret ++ d ++ nl))
     ≡ a1 ++ (o ++ (z ++ (d ++ (nl ++ (x1 ++ (es ++ (x2 ++ (d ++ (nl ++ (at ++ (d ++ (nl ++ (y1 ++ (n ++ (z ++ (d ++ (nl
-        ++ (f1 ++ (nm ++ (c ++ (ar ++ (c ++ (en ++ (z ++ (d ++ (nl
-        ++ (lb ++ (lab ++ (z ++ (d ++ (nl ++ (ln ++ (fi ++ (o ++ (fj ++ (nm ++ (fk ++ (ar ++ (z ++ (d ++ (nl
-        ++ (lb ++ (en ++ (z ++ (d ++ (nl ++ (ret ++ (d ++ nl))))))))))))))))))))))))))))))))))))))))))))))))
+    ++ (f1 ++ (nm ++ (c ++ (ar ++ (c ++ (en ++ (z ++ (d ++ (nl
+    ++ (lb ++ (lab ++ (z ++ (d ++ (nl ++ (ln ++ (fi ++ (o ++ (fj ++ (nm ++ (fk ++ (ar ++ (z ++ (d ++ (nl
+    ++ (lb ++ (en ++ (z ++ (d ++ (nl ++ (ret ++ (d ++ nl))))))))))))))))))))))))))))))))))))))))))))))))
 regroup a1 o z x1 es x2 at y1 n f1 nm c ar en lb lab ln fi fj fk ret d nl = simp append_assoc
 
 nested-text : (s : Shape) → shape_text s ≡ nested s
@@ -69,11 +69,11 @@ info-words : (s : Shape) → InRange s → IsWord s.owner → IsWord s.name → 
 info-words s r owner name =
     ap (λ ws. codes "func_info" ∷ codes "atom" ∷ ws)
     (words-word s.owner _ 125 owner refl
-      ∙ ap (λ ws. s.owner ∷ codes "atom" ∷ ws)
-      (words-word s.name _ 125 name refl
-        ∙ ap (λ ws. s.name ∷ ws)
-        (words-word (decimal s.arity) _ 125 (decimal-word s.arity (omega (arith, r.arity))) refl
-          ∙ ap (λ ws. decimal s.arity ∷ codes "label" ∷ ws) (words-word (decimal s.entry) after_entry 125 (decimal-word s.entry (omega (arith, r.entry))) refl))))
+    ∙ ap (λ ws. s.owner ∷ codes "atom" ∷ ws)
+    (words-word s.name _ 125 name refl
+    ∙ ap (λ ws. s.name ∷ ws)
+    (words-word (decimal s.arity) _ 125 (decimal-word s.arity (omega (arith, r.arity))) refl
+    ∙ ap (λ ws. decimal s.arity ∷ codes "label" ∷ ws) (words-word (decimal s.entry) after_entry 125 (decimal-word s.entry (omega (arith, r.entry))) refl))))
 
 line-words : (has_line : Bool) (rest : List ℕ) → words_from [] (line_text has_line ++ rest) ≡ line_words has_line ++ words_from [] rest
 line-words true rest = refl
@@ -83,15 +83,15 @@ tail-words : (s : Shape) → InRange s → IsWord s.owner → IsWord s.name → 
 tail-words s r owner name =
     ap (λ ws. codes "attributes" ∷ codes "labels" ∷ ws)
     (words-word (decimal s.labels) _ 125 (decimal-word s.labels (omega (arith, r.labels))) refl
-      ∙ ap (λ ws. decimal s.labels ∷ codes "function" ∷ ws)
-      (words-word s.name _ 44 name refl
-        ∙ ap (λ ws. s.name ∷ ws)
-        (words-word (decimal s.arity) _ 44 (decimal-word s.arity (omega (arith, r.arity))) refl
-          ∙ ap (λ ws. decimal s.arity ∷ ws)
-          (words-word (decimal s.entry) _ 125 (decimal-word s.entry (omega (arith, r.entry))) refl
-            ∙ ap (λ ws. decimal s.entry ∷ codes "label" ∷ ws)
-            (words-word (decimal s.label) _ 125 (decimal-word s.label (omega (arith, r.label))) refl
-              ∙ ap (λ ws. decimal s.label ∷ ws) (line-words s.has_line (info s) ∙ ap (λ ws. line_words s.has_line ++ ws) (info-words s r owner name)))))))
+    ∙ ap (λ ws. decimal s.labels ∷ codes "function" ∷ ws)
+    (words-word s.name _ 44 name refl
+    ∙ ap (λ ws. s.name ∷ ws)
+    (words-word (decimal s.arity) _ 44 (decimal-word s.arity (omega (arith, r.arity))) refl
+    ∙ ap (λ ws. decimal s.arity ∷ ws)
+    (words-word (decimal s.entry) _ 125 (decimal-word s.entry (omega (arith, r.entry))) refl
+    ∙ ap (λ ws. decimal s.entry ∷ codes "label" ∷ ws)
+    (words-word (decimal s.label) _ 125 (decimal-word s.label (omega (arith, r.label))) refl
+    ∙ ap (λ ws. decimal s.label ∷ ws) (line-words s.has_line (info s) ∙ ap (λ ws. line_words s.has_line ++ ws) (info-words s r owner name)))))))
 
 -- the words of the text are the shape's
 pub shape-words : (s : Shape) → InRange s → IsWord s.owner → IsWord s.name → words_from [] (shape_text s) ≡ shape_words s
@@ -99,4 +99,4 @@ shape-words s r owner name =
     ap (words_from []) (nested-text s)
     ∙ ap (λ ws. codes "module" ∷ ws)
     (words-word s.owner _ 125 owner refl
-      ∙ ap (λ ws. s.owner ∷ codes "exports" ∷ ws) (exports-words s s.exports (after_exports s) name (omega (arith, r.arity)) ∙ ap (λ ws. export_words s s.exports ++ ws) (tail-words s r owner name)))
+    ∙ ap (λ ws. s.owner ∷ codes "exports" ∷ ws) (exports-words s s.exports (after_exports s) name (omega (arith, r.arity)) ∙ ap (λ ws. export_words s s.exports ++ ws) (tail-words s r owner name)))

@@ -126,7 +126,7 @@ abbrev pub code_typed : List Constant → ℕ → List (ℕ × Frame) → Option
 code_typed pool max_stack maps before [] = is_none before
 code_typed pool max_stack maps before (p ∷ code) =
     unwrap_or (option_map (λ after. within max_stack after && code_typed pool max_stack maps after code)
-        (option_and_then (leaves pool p.1) (standing (frame_at maps p.0) before))) false
+    (option_and_then (leaves pool p.1) (standing (frame_at maps p.0) before))) false
 
 -- the process, the entry number, and locals that hold nothing yet
 abbrev pub first_frame : ℕ → Frame

@@ -24,7 +24,10 @@ pub fn read_thin(alloc: Global, bytes: &[u8]) -> Result<Option<Module>, AllocErr
         return Ok(None);
     };
     let text = parts.text(alloc)?;
-    if text.as_bytes() != bytes || !parts.is_sound() {
+    if text.as_bytes() != bytes {
+        return Ok(None);
+    }
+    if !parts.is_sound() {
         return Ok(None);
     }
     Ok(Some(parts.module(alloc)?))

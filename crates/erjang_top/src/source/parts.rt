@@ -1,6 +1,6 @@
 //! What a text of a module with one function that returns at once is made of.
 
-ghost use Rattle.std.specs.Prelude.{◌≡◌, ℕ, ◌<◌, ◌≤◌, ◌^◌, ◌↔◌, IsTrue, IfOk, Some, length, map, string_bytes};
+ghost use Rattle.std.specs.Prelude.{◌≡◌, ℕ, ◌<◌, ◌≤◌, ◌^◌, ◌↔◌, IsTrue, IfOk, IfSome, Some, length, map, string_bytes};
 ghost use Rattle.erjang_top.specs.Shape.{Shape, InRange, shape_words, tail_words};
 ghost use Rattle.std.specs.Fmt.{decimal};
 ghost use Rattle.erjang_top.specs.ShapeSound.{IsSound};
@@ -54,7 +54,8 @@ const FIRST_WORDS: usize = 3;
 
 /// The parts of a text that has these words; where no such text has them, none or any parts.
 pub(crate) fn take_apart(alloc: Global, words: &[String]) -> Result<Option<Parts>, AllocError>
-    ensures { IfOk result (λ parts. (s : Shape) → InRange s → map string_bytes words.now ≡ shape_words s → parts ≡ Some s) }
+    ensures printed { IfOk result (λ parts. (s : Shape) → InRange s → map string_bytes words.now ≡ shape_words s → parts ≡ Some s) }
+    ensures in_range { IfOk result (λ parts. IfSome parts InRange) }
 {
     if words.len() < FIXED_WORDS {
         return Ok(None);

@@ -76,7 +76,12 @@ fn plain_text(alloc: Global, name: &str) -> Result<Text, AllocError>
 }
 
 // So many exports of one function.
-fn exports(alloc: Global, name: &str, arity: u8, count: usize) -> Result<Items<(Text, u8)>, AllocError>
+fn exports(
+    alloc: Global,
+    name: &str,
+    arity: u8,
+    count: usize,
+) -> Result<Items<(Text, u8)>, AllocError>
     requires { is_thin_name name.now ≡ true }
     ensures { IfOk result (λ exports. exports ≡ replicate count (name.now, arity)) }
 {

@@ -72,12 +72,20 @@ fn write_function(text: &mut String, name: &str, arity: u8, entry: u32) -> Resul
 fn write_func_info(text: &mut String, owner: &str, name: &str, arity: u8) -> Result<(), AllocError>
     ensures { OnOk result (string_bytes text.new ≡ string_bytes text.old ++ info_line owner.now name.now arity) }
 {
-    write!(text, "{{func_info,{{atom,{owner}}},{{atom,{name}}},{arity}}}.\n")?;
+    write!(
+        text,
+        "{{func_info,{{atom,{owner}}},{{atom,{name}}},{arity}}}.\n"
+    )?;
     Ok(())
 }
 
 // The exports, with commas between them.
-fn write_each_export(text: &mut String, name: &str, arity: u8, count: usize) -> Result<(), AllocError>
+fn write_each_export(
+    text: &mut String,
+    name: &str,
+    arity: u8,
+    count: usize,
+) -> Result<(), AllocError>
     ensures { OnOk result (string_bytes text.new ≡ string_bytes text.old ++ exports_of name.now arity count) }
 {
     for at in 0..count {
@@ -104,5 +112,9 @@ fn write_label(text: &mut String, label: u32) -> Result<(), AllocError>
 fn write_line(text: &mut String, has_line: bool) -> Result<(), AllocError>
     ensures { OnOk result (string_bytes text.new ≡ string_bytes text.old ++ line_text has_line) }
 {
-    if has_line { text.push_str("{line,[]}.\n") } else { Ok(()) }
+    if has_line {
+        text.push_str("{line,[]}.\n")
+    } else {
+        Ok(())
+    }
 }

@@ -5,15 +5,15 @@ use Rattle.erjang_top.specs.Shape.{Shape, tail_words, export_words}
 use Rattle.erjang_top.proofs.ShapeWordsList.{image-at, tail-is, head-is, exports-count, line-parity}
 use Rattle.erjang_top.proofs.source.parts.take_apart.Goals as goal
 
-pub returns-in_default : goal.returns-in_default
-returns-in_default c s r e =
+pub returns-in_default-clause-printed : goal.returns-in_default-clause-printed
+returns-in_default-clause-printed c s r e =
     let n = 3 + 2 * ((length c.args.words.now - 21) / 2) in
     let tail = tail-is string_bytes c.args.words.now c.split_at.result.1.now s n e refl c.split_at.ensures.back in
     let none = c.in_default.ensures s r tail in
     cc
 
-pub returns : goal.returns
-returns c s r e =
+pub returns-clause-printed : goal.returns-clause-printed
+returns-clause-printed c s r e =
     let n = 3 + 2 * ((length c.args.words.now - 21) / 2) in
     let tail = tail-is string_bytes c.args.words.now c.split_at.result.1.now s n e refl c.split_at.ensures.back in
     let head = head-is string_bytes c.args.words.now c.split_at.result.0.now s n e (omega arith) c.split_at.ensures.front in

@@ -9,4 +9,4 @@ pub returns : goal.returns
 returns c =
     subst (λ (s : Shape). string_bytes c.push_str.new.self ≡ string_bytes c.args.text.now ++ body_text s) c.self.view_is
     (body-written (the_view c.self.inside) _ _ _ _ _ _ _ _ c.as_str.ensures.value c.as_str-2.ensures.value
-      c.in_ok-write_label.ensures c.in_ok-write_line.ensures c.in_ok-write_func_info.ensures c.in_ok-write_label-2.ensures c.in_ok-push_str.ensures.bytes)
+    c.in_ok-write_label.ensures c.in_ok-write_line.ensures c.in_ok-write_func_info.ensures c.in_ok-write_label-2.ensures c.in_ok-push_str.ensures.bytes)
