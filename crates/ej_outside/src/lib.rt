@@ -6,10 +6,16 @@
 //! comes only where the outside gave cause for it.
 #![tactic(auto)]
 
+mod calls;
 mod fault;
+mod mem_shelf;
+mod mem_sink;
 mod shelf;
 mod sink;
+mod store;
 
 pub use fault::Failed;
+pub use mem_shelf::MemShelf;
+pub use mem_sink::MemSink;
 pub use shelf::{Got, Shelf, ShelfFault};
 pub use sink::Sink;
