@@ -102,7 +102,7 @@ fn read_file<R: Files>(files: &R, alloc: Global, name: &str, limit: u64) -> Resu
 }
 
 /// The bytes that are left to read, if there are at most `limit` of them.
-fn read_all<F: Read>(file: &mut F, alloc: Global, limit: u64) -> Result<Got, ShelfFault>
+pub(crate) fn read_all<F: Read>(file: &mut F, alloc: Global, limit: u64) -> Result<Got, ShelfFault>
     ensures { IsWithin result limit }
 {
     let mut bytes = Vec::new(alloc);
@@ -150,7 +150,7 @@ fn write_file<R: Files>(files: &R, name: &str, bytes: &[u8]) -> Result<(), Faile
 }
 
 /// Writes all the bytes.
-fn write_all<W: io::Write>(file: &mut W, bytes: &[u8]) -> Result<(), Failed> {
+pub(crate) fn write_all<W: io::Write>(file: &mut W, bytes: &[u8]) -> Result<(), Failed> {
     let mut rest = bytes;
     while !rest.is_empty() {
         let count = write_some(file, rest)?;

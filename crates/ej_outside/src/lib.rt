@@ -15,6 +15,8 @@ mod shelf;
 mod sink;
 mod std_sink;
 mod store;
+#[cfg(test)]
+mod tests;
 
 pub use fault::Failed;
 pub use file_shelf::FileShelf;
