@@ -5,6 +5,9 @@ use Rattle.std.specs.Coded.{Coded, code_by, coded×, coded_ℕ, coded_list, code
 use Rattle.ej_outside.specs.declared.shelf.Got.{Got}
 use Rattle.ej_outside.specs.declared.shelf.Got.TheVariants.{Bytes, Absent, Longer}
 use Rattle.ej_outside.specs.declared.shelf.ShelfFault.{ShelfFault}
+use Rattle.ej_outside.specs.declared.shelf.ShelfFault.TheVariants.{Failed, NoMemory}
+use Rattle.ej_outside.specs.declared.fault.Failed as failed
+use Rattle.ej_outside.specs.Counts.{raised}
 use Rattle.ej_outside.specs.Shelf.{Files, ShelfState}
 
 -- it is stored as its contents and its counts
@@ -26,3 +29,16 @@ IsWithin (Ok (Bytes v)) limit = length v.items ≤ limit
 IsWithin (Ok Absent) limit = Unit {0}
 IsWithin (Ok Longer) limit = Unit {0}
 IsWithin (Err fault) limit = Unit {0}
+
+-- what a `get` that answered so leaves: the count of that answer has risen
+abbrev pub after_get : ShelfState → Result Got ShelfFault → ShelfState
+after_get s (Ok (Bytes v)) = s
+after_get s (Ok Absent) = record s { misses = raised s.misses }
+after_get s (Ok Longer) = record s { longs = raised s.longs }
+after_get s (Err Failed) = record s { read_faults = raised s.read_faults }
+after_get s (Err NoMemory) = s
+
+-- what a `put` that answered so leaves
+abbrev pub after_put : ShelfState → Result (Unit {0}) failed.Failed → ShelfState
+after_put s (Ok done) = s
+after_put s (Err fault) = record s { put_faults = raised s.put_faults }

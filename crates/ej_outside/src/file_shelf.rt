@@ -55,7 +55,8 @@ impl<'a, R: Files> FileShelf<'a, R> {
 }
 
 impl<'a, R: Files> Shelf for FileShelf<'a, R> {
-    ghost use Rattle.ej_outside.specs.Shelf.{ShelfState, Gets};
+    ghost use Rattle.ej_outside.specs.Shelf.{ShelfState, Gets, Puts};
+    ghost use Rattle.ej_outside.specs.FileShelf.{after_get, after_put};
 
     ghost state = { λ s. s };
 
@@ -66,6 +67,7 @@ impl<'a, R: Files> Shelf for FileShelf<'a, R> {
     /// the limit are read. An interrupted read is tried again.
     fn get(&mut self, alloc: Global, name: &str, limit: u64) -> Result<Got, ShelfFault>
         ensures owed { Gets self.old name.now limit result self.new }
+        ensures counted { self.new ≡ after_get self.old result }
         ensures within { IsWithin result limit }
     {
         let answer = read_file(self.files, alloc, name, limit);
@@ -81,7 +83,10 @@ impl<'a, R: Files> Shelf for FileShelf<'a, R> {
     /// Writes the file anew, with these bytes. It makes no folder.
     ///
     /// `Failed` comes at every error; the file may then have a front of the bytes.
-    fn put(&mut self, name: &str, bytes: &[u8]) -> Result<(), Failed> {
+    fn put(&mut self, name: &str, bytes: &[u8]) -> Result<(), Failed>
+        ensures owed { Puts self.old name.now bytes.now result self.new }
+        ensures counted { self.new ≡ after_put self.old result }
+    {
         let answer = write_file(self.files, name, bytes);
         if answer.is_err() {
             self.put_faults = one_more(self.put_faults);

@@ -41,7 +41,8 @@ impl<W: Write + Drop> StdSink<W> {
 }
 
 impl<W: Write + Drop> Sink for StdSink<W> {
-    ghost use Rattle.ej_outside.specs.Sink.{SinkState};
+    ghost use Rattle.ej_outside.specs.Sink.{SinkState, Writes};
+    ghost use Rattle.ej_outside.specs.StdSink.{after_write};
 
     ghost state = { λ s. s };
 
@@ -49,7 +50,10 @@ impl<W: Write + Drop> Sink for StdSink<W> {
     ///
     /// `Failed` comes where the stream answers an error other than an interruption, after which the write is
     /// tried again, or takes none of a piece that is not empty. The count of faults then rises.
-    fn write(&mut self, piece: &[u8]) -> Result<usize, Failed> {
+    fn write(&mut self, piece: &[u8]) -> Result<usize, Failed>
+        ensures owed { Writes self.old piece.now result self.new }
+        ensures counted { self.new ≡ after_write self.old result }
+    {
         match write_some(&mut self.stream, piece) {
             Ok(count) => Ok(count),
             Err(fault) => {
