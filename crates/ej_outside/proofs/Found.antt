@@ -1,5 +1,5 @@
 -- One step of looking a name up, newest put first.
-use Rattle.std.proofs.Common.{◌≡◌, ℕ, Bool, [], ◌<◌, get_or, String, Vec, string_bytes, ◌-◌, ◌+◌, ◌≤◌, true, false, cond, nat_eq, List, ◌∷◌, ◌++◌, length, take, drop, Option, None, Some, ap, sym, ◌∙◌, refl, arith, length-take, subst}
+use Rattle.std.proofs.Common.{◌≡◌, ℕ, Bool, [], ◌<◌, get_or, String, Vec, string_bytes, ◌+◌, ◌≤◌, true, false, cond, nat_eq, List, ◌∷◌, ◌++◌, length, take, drop, Option, None, Some, ap, sym, ◌∙◌, refl, arith}
 use Rattle.std.specs.Ordering.{nat_cmp, eq_by_cmp}
 use Rattle.std.specs.Cmp.Lexicographic.{slice_cmp, pointwise, texts_ties}
 use Rattle.std.specs.FinMap.{find}

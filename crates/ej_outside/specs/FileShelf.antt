@@ -1,5 +1,5 @@
 -- A shelf over files, which tells no contents.
-use Rattle.std.specs.Prelude.{ℕ, ◌≤◌, List, length, Option, None, Result, Ok, Err, refl}
+use Rattle.std.specs.Prelude.{ℕ, ◌≤◌, length, Option, None, Result, Ok, Err, refl}
 use Rattle.std.specs.FinMap as map
 use Rattle.std.specs.Coded.{Coded, code_by, coded×, coded_ℕ, coded_list, coded_option}
 use Rattle.ej_outside.specs.declared.shelf.Got.{Got}

@@ -1,7 +1,5 @@
 -- A shelf in memory: what it stands for, and what each call on it answers and leaves.
 use Rattle.std.specs.Prelude.{◌≡◌, ℕ, ◌-◌, ◌/◌, ◌<◌, ◌≤◌, ◌⊎◌, true, false, nat_le, if◌then◌else◌, List, length, take, None, Some, IsSomeAnd, Result, Ok, Err, refl}
-use Rattle.std.specs.Ordering.{nat_cmp}
-use Rattle.std.specs.Cmp.Lexicographic.{slice_cmp}
 use Rattle.std.specs.FinMap as map
 use Rattle.std.specs.Coded.{Coded, code_by, coded×, coded_ℕ, coded_list}
 use Rattle.ej_outside.specs.declared.shelf.Got.{Got}

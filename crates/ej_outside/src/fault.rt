@@ -1,3 +1,5 @@
+//! The fault that every outside has.
+
 use thiserror::Error;
 
 /// The outside failed: a read, a write or a put did not come about.

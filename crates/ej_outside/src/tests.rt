@@ -19,10 +19,10 @@ fn shelf(alloc: Global, room: usize, fails: &[u64]) -> Result<MemShelf, AllocErr
     MemShelf::new(alloc, files, room, Vec::from_slice(alloc, fails)?)
 }
 
-fn is_bytes(got: &Result<Got, ShelfFault>, bytes: &[u8]) -> bool {
+fn is_bytes(got: &Got, bytes: &[u8]) -> bool {
     match got {
-        Ok(Got::Bytes(found)) => found.as_slice() == bytes,
-        _ => false,
+        Got::Bytes(found) => found.as_slice() == bytes,
+        Got::Absent | Got::Longer => false,
     }
 }
 
@@ -36,11 +36,11 @@ fn is_under(shelf: &MemShelf, name: &str, bytes: &[u8]) -> bool {
 #[test]
 fn a_shelf_in_memory_gets_and_puts(rt: HostRuntime) -> Result<(), Fail> {
     let mut shelf = shelf(rt.alloc(), 100, &[1])?;
-    assert!(rt; is_bytes(&shelf.get(rt.alloc(), "a", 3), b"abc"));
+    assert!(rt; is_bytes(&shelf.get(rt.alloc(), "a", 3)?, b"abc"));
     let listed = shelf.get(rt.alloc(), "a", 3);
     assert!(rt; matches!(listed, Err(ShelfFault::Failed)));
-    assert!(rt; matches!(shelf.get(rt.alloc(), "a", 2), Ok(Got::Longer)));
-    assert!(rt; matches!(shelf.get(rt.alloc(), "b", 9), Ok(Got::Absent)));
+    assert!(rt; matches!(shelf.get(rt.alloc(), "a", 2)?, Got::Longer));
+    assert!(rt; matches!(shelf.get(rt.alloc(), "b", 9)?, Got::Absent));
     assert_eq!(rt; shelf.put("b", b"new"), Ok(()));
     assert_eq!(rt; shelf.put("a", b"other"), Ok(()));
     assert!(rt; is_under(&shelf, "b", b"new"));
@@ -73,7 +73,8 @@ fn a_sink_in_memory_takes_whole_pieces(rt: HostRuntime) -> Result<(), Fail> {
     assert_eq!(rt; sink.write(b""), Ok(0));
     assert_eq!(rt; sink.write(b"f"), Err(Failed));
     assert!(rt; sink.taken() == b"abcde".as_slice());
-    assert!(rt; MemSink::new(rt.alloc(), 100, Vec::new(rt.alloc())).is_ok());
+    let other = MemSink::new(rt.alloc(), 100, Vec::new(rt.alloc()))?;
+    assert!(rt; other.taken().is_empty());
     Ok(())
 }
 
@@ -82,13 +83,13 @@ fn files_and_streams(rt: HostRuntime) -> Result<(), Fail> {
     let path = "ej_outside_test_of_files_and_streams.tmp";
     let mut shelf = FileShelf::new(&rt);
     assert_eq!(rt; shelf.put(path, b"hello"), Ok(()));
-    assert!(rt; is_bytes(&shelf.get(rt.alloc(), path, 5), b"hello"));
-    assert!(rt; matches!(shelf.get(rt.alloc(), path, 4), Ok(Got::Longer)));
+    assert!(rt; is_bytes(&shelf.get(rt.alloc(), path, 5)?, b"hello"));
+    assert!(rt; matches!(shelf.get(rt.alloc(), path, 4)?, Got::Longer));
     let mut sink = StdSink::new(fs::create(&rt, path)?);
     assert_eq!(rt; sink.write(b"over"), Ok(4));
-    assert!(rt; is_bytes(&shelf.get(rt.alloc(), path, 5), b"over"));
+    assert!(rt; is_bytes(&shelf.get(rt.alloc(), path, 5)?, b"over"));
     fs::remove_file(&rt, path)?;
-    assert!(rt; matches!(shelf.get(rt.alloc(), path, 5), Ok(Got::Absent)));
+    assert!(rt; matches!(shelf.get(rt.alloc(), path, 5)?, Got::Absent));
     assert_eq!(rt; shelf.put("ej_outside_no_such_folder/x", b""), Err(Failed));
     assert!(rt; matches!(shelf.get(rt.alloc(), ".", 5), Err(ShelfFault::Failed)));
     Ok(())
@@ -132,7 +133,7 @@ impl Write for Breaking {
 #[test]
 fn a_fault_in_mid_stream_is_answered(rt: HostRuntime) -> Result<(), Fail> {
     let read = read_all(&mut Breaking { left: 4 }, rt.alloc(), 9);
-    assert!(rt; matches!(read, Err(ShelfFault::Failed)));
+    assert!(rt; matches!(read, Err(ShelfFault::Failed)), "{read:?}");
     assert_eq!(rt; write_all(&mut Breaking { left: 4 }, b"abcd"), Ok(()));
     assert_eq!(rt; write_all(&mut Breaking { left: 4 }, b"abcde"), Err(Failed));
     let mut sink = StdSink::new(Breaking { left: 2 });
