@@ -1,3 +1,9 @@
+pub mod Calls
 pub mod Counts
+pub mod FileShelf
+pub mod MemShelf
+pub mod MemSink
 pub mod Shelf
 pub mod Sink
+pub mod StdSink
+pub mod Store

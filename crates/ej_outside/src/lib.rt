@@ -6,10 +6,22 @@
 //! comes only where the outside gave cause for it.
 #![tactic(auto)]
 
+mod calls;
 mod fault;
+mod file_shelf;
+mod mem_shelf;
+mod mem_sink;
 mod shelf;
 mod sink;
+mod std_sink;
+mod store;
+#[cfg(test)]
+mod tests;
 
 pub use fault::Failed;
+pub use file_shelf::FileShelf;
+pub use mem_shelf::MemShelf;
+pub use mem_sink::MemSink;
 pub use shelf::{Got, Shelf, ShelfFault};
 pub use sink::Sink;
+pub use std_sink::StdSink;

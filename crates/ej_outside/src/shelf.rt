@@ -4,6 +4,7 @@ ghost use Rattle.ej_outside.specs.Shelf.{ShelfState, Gets, Puts};
 
 use crate::Failed;
 use std::alloc::Global;
+use thiserror::Error;
 
 /// What `Shelf::get` found under a name.
 #[derive(Debug, Drop)]
@@ -17,11 +18,13 @@ pub enum Got {
 }
 
 /// Why `Shelf::get` has no answer.
-#[derive(Clone, Copy, Debug, PartialEq, Eq)]
+#[derive(Clone, Copy, Debug, PartialEq, Eq, Error)]
 pub enum ShelfFault {
     /// The outside failed.
+    #[error("the read failed")]
     Failed,
     /// Memory was wanting.
+    #[error("no memory")]
     NoMemory,
 }
 
