@@ -7,3 +7,4 @@ pub mod Emitted
 pub mod Source
 pub mod Words
 pub mod Answers
+pub mod Work

@@ -1,0 +1,3 @@
+mod Said
+mod Worked
+mod Answered
