@@ -7,8 +7,23 @@ ghost use Rattle.erjang_top.specs.Work.{WritesAll, Reports, refusal_of};
 use crate::compile::{Fault, Refusal};
 use ej_outside::{Failed, Sink};
 
-/// The status of a message that was not taken whole, and of a class that was not put.
+/// The class stands.
+const DONE: u8 = 0;
+
+/// The source is refused.
+const REFUSED: u8 = 1;
+
+/// The words are not those of a command.
+const USAGE: u8 = 2;
+
+/// The source could not be read.
+const READ_FAULT: u8 = 3;
+
+/// A message was not taken whole, or the class was not put.
 const WRITE_FAULT: u8 = 4;
+
+/// Memory was wanting.
+const NO_MEMORY: u8 = 5;
 
 /// Writes a whole piece, however many writes that takes.
 fn write_all<E: Sink>(err: &mut E, piece: &[u8]) -> Result<(), Failed>
@@ -54,7 +69,7 @@ pub(crate) fn usage<E: Sink>(err: &mut E) -> u8
     let line =
         b"usage: erjang compile OUTDIR FILE... | beam SCRIPT FILE... | run SCRIPT CLASS... | verify CLASS... | sample N\n";
     match write_all(err, line) {
-        Ok(()) => 2,
+        Ok(()) => USAGE,
         Err(Failed) => WRITE_FAULT,
     }
 }
@@ -75,10 +90,10 @@ pub(crate) fn report<E: Sink>(err: &mut E, file: &str, outcome: Result<(), Fault
     ensures { Reports file.now outcome result (E.state err.old) (E.state err.new) }
 {
     match outcome {
-        Ok(()) => 0,
-        Err(Fault::Refused(refusal)) => say(err, file, cause_text(refusal), 1),
-        Err(Fault::ReadFailed) => say(err, file, ": read failed", 3),
+        Ok(()) => DONE,
+        Err(Fault::Refused(refusal)) => say(err, file, cause_text(refusal), REFUSED),
+        Err(Fault::ReadFailed) => say(err, file, ": read failed", READ_FAULT),
         Err(Fault::PutFailed) => WRITE_FAULT,
-        Err(Fault::NoMemory) => 5,
+        Err(Fault::NoMemory) => NO_MEMORY,
     }
 }
