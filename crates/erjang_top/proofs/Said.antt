@@ -1,5 +1,5 @@
 -- Writing a text in pieces.
-use Rattle.std.proofs.Common.{◌≡◌, ℕ, ◌+◌, List, ◌++◌, length, take, drop, Option, None, Some, Result, Ok, Err, refl, sym, ap, ◌∙◌, append_assoc, length-append, arith}
+use Rattle.std.proofs.Common.{◌≡◌, ℕ, ◌+◌, List, ◌++◌, length, take, drop, Option, None, Some, Result, Ok, Err, IsErrAnd, refl, sym, ap, ◌∙◌, append_assoc, length-append, arith}
 use Rattle.std.specs.Option.{option_map}
 use Rattle.std.proofs.lemmas.List.{take-append-drop, take-append-le}
 use Rattle.std.proofs.Math.Seq.{take-append_seam, take-append-add}
@@ -61,3 +61,9 @@ took_till s t u front rest whole e p q =
       q.took ∙ p.0 ∙ ap (λ (l : List ℕ). option_map (λ (taken : List ℕ). taken ++ l) s.took) (sym (take-append_seam front rest) ∙ ap (take (length front)) e),
       rw p.1 at rises,
     )
+
+-- a fault that is passed on
+pub fault_passed_on : (s u : SinkState) (text : List ℕ) (r : Result (Unit {0}) failed.Failed) (fault : failed.Failed)
+    → IsErrAnd r (λ e. e ≡ fault) → TookFront s text u → WritesAll s text r u
+fault_passed_on s u text (Ok done) fault e p = absurd e
+fault_passed_on s u text (Err other) fault e p = p

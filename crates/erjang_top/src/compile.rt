@@ -44,9 +44,9 @@ impl From<AllocError> for Fault {
     ghost use Rattle.std.specs.Prelude.{◌≡◌};
     ghost use Rattle.erjang_top.specs.declared.compile.Fault.TheVariants.{NoMemory};
 
-    ghost from_gives = { λ error fault. fault ≡ NoMemory };
+    ghost from_gives = { λ _ fault. fault ≡ NoMemory };
 
-    fn from(error: AllocError) -> Fault {
+    fn from(_: AllocError) -> Fault {
         Fault::NoMemory
     }
 }

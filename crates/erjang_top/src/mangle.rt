@@ -18,7 +18,11 @@ fn digit(value: u8) -> u8
     requires { value < 16 }
     ensures { result ≡ upper_digit value }
 {
-    if value < 10 { 48 + value } else { 55 + value }
+    if value < 10 {
+        b'0' + value
+    } else {
+        b'A' + (value - 10)
+    }
 }
 
 /// Appends a byte as it is, or as `$` and its two digits.

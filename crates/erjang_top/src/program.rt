@@ -10,12 +10,19 @@ use crate::words::compile_words;
 use ej_outside::{Shelf, Sink};
 use std::alloc::Global;
 
-/// Does what the words say, and answers the status: 0 done, 1 refused, 2 other words, 3 read failed, 4 write
-/// failed, 5 no memory. The words leave out the program's name.
+/// Does what the words say, and answers the status. The words leave out the program's name.
 ///
 /// `compile OUTDIR FILE`, with no empty word, puts the class of the source FILE under `OUTDIR/NAME.class`, where
-/// NAME is the mangled name of the module. It writes nothing on `out`. What stands against it is said on `err`,
-/// in one line. All other words are answered by a line that says how the program is used.
+/// NAME is the mangled name of its module. It takes all its memory before the put, and writes nothing on `out`.
+///
+/// | Status | Cause | Line on `err` |
+/// |---|---|---|
+/// | 0 | the class stands | none |
+/// | 1 | FILE is refused | `FILE: absent`, `FILE: longer than 67108864 bytes` or `FILE: not built` |
+/// | 2 | other words | how the program is used |
+/// | 3 | FILE could not be read | `FILE: read failed` |
+/// | 4 | the put failed, or a write on `err` | none, or a front of one of those |
+/// | 5 | memory was wanting | none |
 pub fn erjang<S: Shelf, O: Sink, E: Sink>(
     alloc: Global,
     words: &[String],

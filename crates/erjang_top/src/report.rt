@@ -43,12 +43,8 @@ fn write_all<E: Sink>(err: &mut E, piece: &[u8]) -> Result<(), Failed>
 fn write_message<E: Sink>(err: &mut E, file: &str, cause: &str) -> Result<(), Failed>
     ensures { WritesAll (E.state err.old) (file.now ++ cause.now ++ 10 ∷ []) result (E.state err.new) }
 {
-    if let Err(fault) = write_all(err, file.as_bytes()) {
-        return Err(fault);
-    }
-    if let Err(fault) = write_all(err, cause.as_bytes()) {
-        return Err(fault);
-    }
+    write_all(err, file.as_bytes())?;
+    write_all(err, cause.as_bytes())?;
     write_all(err, b"\n")
 }
 
