@@ -7,3 +7,6 @@ pub mod ExportsText
 pub mod ModuleLemmas
 pub mod ShapeWordsList
 pub mod ReadLemmas
+mod Said
+mod Worked
+mod Answered

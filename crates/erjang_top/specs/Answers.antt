@@ -1,5 +1,5 @@
 -- What the program answers to each status, what it says, and what stands afterwards.
-use Rattle.std.specs.Prelude.{◌≡◌, ◌≢◌, ℕ, ◌+◌, ◌-◌, ◌^◌, ◌<◌, ◌≤◌, ◌⊎◌, List, [], ◌∷◌, ◌++◌, length, take, codes, Option, None, Some, IfSome, IsSomeAnd, MatchOption}
+use Rattle.std.specs.Prelude.{◌≡◌, ◌≢◌, ℕ, ◌-◌, ◌^◌, ◌<◌, ◌≤◌, ◌⊎◌, List, [], ◌∷◌, ◌++◌, length, take, codes, Option, None, Some, IfSome, IsSomeAnd}
 use Rattle.std.specs.Option.{option_map}
 use Rattle.std.specs.FinMap as files
 use Rattle.beam_code.specs.declared.module.Module.{Module}
@@ -84,6 +84,7 @@ pub record Refused (w : Compile) (cause : Refusal) (old new : ShelfState) : Type
 pub record Compiled (w : Compile) (held : Files) (new : Files) : Type 0 where
   pub bytes : List ℕ
   pub source : files.get held w.file ≡ Some bytes
+  pub short : length bytes ≤ longest_file
   pub module' : Module
   pub thin : Thin bytes module'
   pub class : List ℕ

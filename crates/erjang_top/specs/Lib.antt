@@ -10,3 +10,4 @@ pub mod ShapeSound
 pub mod Source
 pub mod Words
 pub mod Answers
+pub mod Work

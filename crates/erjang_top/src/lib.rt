@@ -1,5 +1,12 @@
 //! The program: its words, what it does with files, and what it answers.
 #![tactic(auto)]
 
+mod compile;
 mod emit;
+mod mangle;
+mod program;
+mod report;
 mod source;
+mod words;
+
+pub use program::erjang;

@@ -1,0 +1,77 @@
+-- What the parts of the top call owe: the words, the work and the report.
+use Rattle.std.specs.Prelude.{◌≡◌, ℕ, ◌<◌, ◌≤◌, List, [], ◌∷◌, ◌++◌, length, codes, None, Some, Result, Ok, Err, IsSomeAnd, string_bytes}
+use Rattle.std.specs.FinMap as files
+use Rattle.beam_code.specs.declared.module.Module.{Module}
+use Rattle.beam_code.specs.Thin.{Thin}
+use Rattle.ej_outside.specs.Counts.{Same, Rises}
+use Rattle.ej_outside.specs.Shelf.{ShelfState, GetsWith}
+use Rattle.ej_outside.specs.Sink.{SinkState}
+use Rattle.ej_outside.specs.declared.fault.Failed as failed
+use Rattle.std.specs.declared.vec.Vec.{Vec}
+use Rattle.erjang_top.specs.declared.compile.Fault.{Fault}
+use Rattle.erjang_top.specs.declared.compile.Fault.TheVariants as fault
+use Rattle.erjang_top.specs.declared.compile.Refusal as code
+use Rattle.erjang_top.specs.declared.compile.Refusal.TheVariants as refusal
+use Rattle.erjang_top.specs.declared.compile.ReadyClass.{ReadyClass}
+use Rattle.erjang_top.specs.declared.words.CompileWords.{CompileWords}
+use Rattle.erjang_top.specs.Answers.{Refusal, Absent, Longer, NotBuilt, Refused, Unchanged, Compiled, PutFailed, Told, SameCounts, TookAll, TookFront, Says, cause_text, class_file, longest_file}
+use Rattle.erjang_top.specs.Emitted.{Emitted}
+use Rattle.erjang_top.specs.Words.{Compile}
+
+-- the words that a command's own hold
+abbrev pub seen_words : CompileWords → Compile
+seen_words words = record { outdir = words.outdir.now; file = words.file.now }
+
+-- the refusal that a code stands for
+abbrev pub refusal_of : code.Refusal → Refusal
+refusal_of refusal.Absent = Absent
+refusal_of refusal.Longer = Longer
+refusal_of refusal.NotBuilt = NotBuilt
+
+-- a source that is read: its bytes, of which there are not too many, or the first of its faults
+abbrev pub GetsSource : {A : Type 0} → List ℕ → ShelfState → Result (Vec ℕ A) Fault → ShelfState → Type 0
+GetsSource file old (Ok v) new = GetsWith old new (λ held. (files.get held file ≡ Some v.items) × (length v.items ≤ longest_file)) Same Same Same
+GetsSource file old (Err (fault.Refused refusal.Absent)) new = GetsWith old new (λ held. files.get held file ≡ None) Same Rises Same
+GetsSource file old (Err (fault.Refused refusal.Longer)) new = GetsWith old new (λ held. IsSomeAnd (files.get held file) (λ bytes. longest_file < length bytes)) Same Same Rises
+GetsSource file old (Err (fault.Refused refusal.NotBuilt)) new = ⊥
+GetsSource file old (Err fault.ReadFailed) new = GetsWith old new (λ held. Unit {0}) Rises Same Same
+GetsSource file old (Err fault.PutFailed) new = ⊥
+GetsSource file old (Err fault.NoMemory) new = GetsWith old new (λ held. Unit {0}) Same Same Same
+
+-- the class of a source, and the name of its file
+pub record IsClassOf (outdir source name class : List ℕ) : Type 0 where
+  pub module' : Module
+  pub thin : Thin source module'
+  pub emitted : Emitted module' class
+  pub named : name ≡ class_file outdir module'.name
+
+-- what a source is built to: its class, or that it is refused, or that memory was wanting
+abbrev pub Builds : List ℕ → List ℕ → Result ReadyClass Fault → Type 0
+Builds outdir source (Ok class) = IsClassOf outdir source (string_bytes class.name) class.bytes.items
+Builds outdir source (Err (fault.Refused refusal.NotBuilt)) = (m : Module) → Thin source m → ⊥
+Builds outdir source (Err (fault.Refused refusal.Absent)) = ⊥
+Builds outdir source (Err (fault.Refused refusal.Longer)) = ⊥
+Builds outdir source (Err fault.ReadFailed) = ⊥
+Builds outdir source (Err fault.PutFailed) = ⊥
+Builds outdir source (Err fault.NoMemory) = Unit {0}
+
+-- what the work leaves on the shelf
+abbrev pub Works : Compile → ShelfState → Result (Unit {0}) Fault → ShelfState → Type 0
+Works w old (Ok done) new = Told old.held new.held (Compiled w) × SameCounts old new
+Works w old (Err (fault.Refused cause)) new = Refused w (refusal_of cause) old new
+Works w old (Err fault.ReadFailed) new = Unchanged old new Rises Same Same
+Works w old (Err fault.PutFailed) new = PutFailed w old new
+Works w old (Err fault.NoMemory) new = Unchanged old new Same Same Same
+
+-- a sink took the whole text, or a front of it and then failed
+abbrev pub WritesAll : SinkState → List ℕ → Result (Unit {0}) failed.Failed → SinkState → Type 0
+WritesAll old text (Ok done) new = TookAll old text new
+WritesAll old text (Err fault) new = TookFront old text new
+
+-- what is said of an outcome about a file, and its status
+abbrev pub Reports : List ℕ → Result (Unit {0}) Fault → ℕ → SinkState → SinkState → Type 0
+Reports file (Ok done) status old new = (status ≡ 0) × (new ≡ old)
+Reports file (Err (fault.Refused cause)) status old new = Says 1 (file ++ cause_text (refusal_of cause) ++ 10 ∷ []) status old new
+Reports file (Err fault.ReadFailed) status old new = Says 3 (file ++ codes ": read failed" ++ 10 ∷ []) status old new
+Reports file (Err fault.PutFailed) status old new = (status ≡ 4) × (new ≡ old)
+Reports file (Err fault.NoMemory) status old new = (status ≡ 5) × (new ≡ old)

@@ -1,0 +1,45 @@
+//! The top call.
+
+ghost use Rattle.std.specs.Prelude.{◌≡◌, map, string_bytes, IfSome, IfNone};
+ghost use Rattle.erjang_top.specs.Words.{compile_words};
+ghost use Rattle.erjang_top.specs.Answers.{Answers, Usage};
+
+use crate::compile::compile;
+use crate::report::{report, usage};
+use crate::words::compile_words;
+use ej_outside::{Shelf, Sink};
+use std::alloc::Global;
+
+/// Does what the words say, and answers the status. The words leave out the program's name.
+///
+/// `compile OUTDIR FILE`, with no empty word, puts the class of the source FILE under `OUTDIR/NAME.class`, where
+/// NAME is the mangled name of its module. It takes all its memory before the put, and writes nothing on `out`.
+///
+/// | Status | Cause | Line on `err` |
+/// |---|---|---|
+/// | 0 | the class stands | none |
+/// | 1 | FILE is refused | `FILE: absent`, `FILE: longer than 67108864 bytes` or `FILE: not built` |
+/// | 2 | other words | how the program is used |
+/// | 3 | FILE could not be read | `FILE: read failed` |
+/// | 4 | the put failed, or a write on `err` | none, or a front of one of those |
+/// | 5 | memory was wanting | none |
+pub fn erjang<S: Shelf, O: Sink, E: Sink>(
+    alloc: Global,
+    words: &[String],
+    shelf: &mut S,
+    out: &mut O,
+    err: &mut E,
+) -> u8
+    ensures usage { IfNone (compile_words (map string_bytes words.now)) (Usage result (S.state shelf.old) (S.state shelf.new) (E.state err.old) (E.state err.new)) }
+    ensures answers { IfSome (compile_words (map string_bytes words.now)) (λ w. Answers w result (S.state shelf.old) (S.state shelf.new) (E.state err.old) (E.state err.new)) }
+    ensures out_untouched { O.state out.new ≡ O.state out.old }
+{
+    let _ = out;
+    match compile_words(words) {
+        None => usage(err),
+        Some(command) => {
+            let outcome = compile(alloc, shelf, command);
+            report(err, command.file, outcome)
+        }
+    }
+}
