@@ -2,13 +2,13 @@
 
 ghost use Rattle.std.specs.Prelude.{◌≡◌, ◌∷◌, [], ◌++◌, map, IfOk, OnOk, replicate, true};
 ghost use Rattle.beam_code.specs.Forms.{opcode};
-ghost use Rattle.beam_code.specs.Opcode.{Label, Line, FuncInfo, Return};
+ghost use Rattle.beam_code.specs.Opcode.{FuncInfo};
 ghost use Rattle.beam_code.specs.Thin.{is_thin_name};
 ghost use Rattle.erjang_top.specs.ShapeModule.{line_code, shape_code, IsFunction, HasShape};
 ghost use Rattle.erjang_top.specs.ShapeSound.{IsSound};
 
 use crate::source::parts::Parts;
-use beam_code::{Function, Instr, Module, Operand, Src, rows};
+use beam_code::{Function, Instr, Module};
 use ej_term::Text;
 use sqlite_items::Items;
 use std::alloc::{AllocError, Global};
@@ -47,12 +47,21 @@ impl Parts {
         ensures { IfOk result (λ code. map opcode code ≡ shape_code self.now) }
     {
         let mut code = Items::new(alloc);
-        code.push(label(alloc, self.label)?)?;
+        code.push(Instr::label(alloc, self.label)?)?;
         push_line(alloc, &mut code, self.has_line)?;
-        code.push(func_info(alloc, self.owner.as_str(), self.name.as_str(), self.arity)?)?;
-        code.push(label(alloc, self.entry)?)?;
-        code.push(return_(alloc))?;
+        code.push(self.func_info(alloc)?)?;
+        code.push(Instr::label(alloc, self.entry)?)?;
+        code.push(Instr::returns(alloc))?;
         Ok(code)
+    }
+
+    fn func_info(&self, alloc: Global) -> Result<Instr, AllocError>
+        requires { IsSound self.now }
+        ensures { IfOk result (λ i. opcode i ≡ FuncInfo self.now.owner self.now.name self.now.arity) }
+    {
+        let owner = plain_text(alloc, self.owner.as_str())?;
+        let name = plain_text(alloc, self.name.as_str())?;
+        Instr::func_info(alloc, owner, name, u32::from(self.arity))
     }
 }
 
@@ -61,7 +70,7 @@ fn push_line(alloc: Global, code: &mut Items<Instr>, has_line: bool) -> Result<(
     ensures { OnOk result (map opcode code.new ≡ map opcode code.old ++ line_code has_line) }
 {
     if has_line {
-        code.push(line(alloc))?;
+        code.push(Instr::line(alloc))?;
     }
     Ok(())
 }
@@ -90,49 +99,4 @@ fn exports(
         exports.push((plain_text(alloc, name)?, arity))?;
     }
     Ok(exports)
-}
-
-fn label(alloc: Global, label: u32) -> Result<Instr, AllocError>
-    ensures { IfOk result (λ i. opcode i ≡ Label label) }
-{
-    let mut operands = Items::new(alloc);
-    operands.push(Operand::Count(label))?;
-    Ok(Instr {
-        row: rows::LABEL,
-        operands,
-    })
-}
-
-fn func_info(alloc: Global, owner: &str, name: &str, arity: u8) -> Result<Instr, AllocError>
-    requires owner { is_thin_name owner.now ≡ true }
-    requires name { is_thin_name name.now ≡ true }
-    ensures { IfOk result (λ i. opcode i ≡ FuncInfo owner.now name.now arity) }
-{
-    let mut operands = Items::new(alloc);
-    operands.push(Operand::Src(Src::Atom(plain_text(alloc, owner)?)))?;
-    operands.push(Operand::Src(Src::Atom(plain_text(alloc, name)?)))?;
-    operands.push(Operand::Count(u32::from(arity)))?;
-    Ok(Instr {
-        row: rows::FUNC_INFO,
-        operands,
-    })
-}
-
-// `line` or `return`
-fn line(alloc: Global) -> Instr
-    ensures { opcode result ≡ Line }
-{
-    Instr {
-        row: rows::LINE,
-        operands: Items::new(alloc),
-    }
-}
-
-fn return_(alloc: Global) -> Instr
-    ensures { opcode result ≡ Return }
-{
-    Instr {
-        row: rows::RETURN,
-        operands: Items::new(alloc),
-    }
 }
