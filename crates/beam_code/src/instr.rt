@@ -73,3 +73,28 @@ impl Instr {
         }
     }
 }
+
+#[cfg(test)]
+mod tests {
+    use super::*;
+    use std::test::Fail;
+
+    // The rows' numbers are their places, from 1, in the table of instructions.
+    #[test]
+    fn rows_and_operands(rt: HostRuntime) -> Result<(), Fail> {
+        let alloc = rt.alloc();
+        let owner = Text::make(alloc, "m")?;
+        let name = Text::make(alloc, "f")?;
+        let made = [
+            (Instr::label(alloc, 7)?, 1, 1),
+            (Instr::line(alloc), 2, 0),
+            (Instr::func_info(alloc, owner, name, 3)?, 4, 3),
+            (Instr::returns(alloc), 22, 0),
+        ];
+        for (instr, row, operands) in &made {
+            assert_eq!(rt; instr.row, *row);
+            assert_eq!(rt; instr.operands.len(), *operands);
+        }
+        Ok(())
+    }
+}

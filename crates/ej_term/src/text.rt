@@ -63,3 +63,22 @@ impl PartialEq for Text {
         self.inner == other.inner
     }
 }
+
+#[cfg(test)]
+mod tests {
+    use super::*;
+    use std::test::Fail;
+
+    #[test]
+    fn keeps_its_characters(rt: HostRuntime) -> Result<(), Fail> {
+        for s in ["", "m", "a b", "\u{e9}\u{10ffff}"] {
+            let text = Text::make(rt.alloc(), s)?;
+            assert_eq!(rt; text.as_str(), s);
+            assert!(rt; text.clone()? == text, "{s}");
+        }
+        let one = Text::make(rt.alloc(), "ab")?;
+        let other = Text::make(rt.alloc(), "ba")?;
+        assert!(rt; one != other);
+        Ok(())
+    }
+}
