@@ -7,6 +7,8 @@ mod mangle;
 mod program;
 mod report;
 mod source;
+#[cfg(test)]
+mod tests;
 mod words;
 
 pub use program::erjang;
