@@ -1,2 +1,4 @@
 pub mod Spelling
+pub mod Appends
 pub mod ClassLaw
+pub mod ReturnClass

@@ -4,6 +4,8 @@ pub mod ClassProfile
 pub mod Typing
 pub mod Linking
 pub mod Emitted
+pub mod Template
+pub mod Written
 pub mod Source
 pub mod Words
 pub mod Answers

@@ -4,6 +4,13 @@ ghost use Rattle.std.specs.Prelude.{IfOk};
 ghost use Rattle.beam_code.specs.Thin.{Accepted};
 ghost use Rattle.erjang_top.specs.Emitted.{Emitted};
 
+mod bytes;
+mod class;
+mod constant;
+mod method;
+mod names;
+mod op;
+
 use beam_code::Module;
 use std::alloc::{AllocError, Global};
 
