@@ -45,13 +45,13 @@ method m = record {
   code_name = m.code_name;
   max_stack = m.max_stack;
   max_locals = m.max_locals;
-  code = placed 0 (map op m.code.now);
+  code = placed 0 (map op m.code.items);
   maps = None;
 }
 
 -- the content of its attribute has a length of four bytes
 pub record MethodFits (m : written_method.Method) : Type 0 where
-  pub ops : AllByRecursion op_fits m.code.now
+  pub ops : AllByRecursion op_fits m.code.items
   pub content : length (code_content (method m)) < 2 ^ 32
 
 abbrev pub class : written_class.Class → Class

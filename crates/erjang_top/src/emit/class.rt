@@ -15,12 +15,13 @@ const MAJOR_VERSION: u16 = 50;
 
 /// A class, with the entries of its constant pool from index 1 on, and the indices of its own name's entry and
 /// its superclass's.
-pub struct Class<'a> {
+#[derive(Clone, Copy)]
+pub struct Class<'a, 'b> {
     pub flags: u16,
-    pub pool: &'a [Constant<'a>],
+    pub pool: &'a [Constant<'b>],
     pub this: u16,
     pub above: u16,
-    pub methods: &'a [Method<'a>],
+    pub methods: &'a [Method],
 }
 
 /// The bytes of a class, which has no interfaces, fields or attributes of its own.

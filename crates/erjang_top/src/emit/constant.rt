@@ -14,6 +14,7 @@ const TAG_METHODREF: u8 = 10;
 const TAG_NAME_AND_TYPE: u8 = 12;
 
 /// An entry, with the indices of those that it names.
+#[derive(Clone, Copy)]
 pub enum Constant<'a> {
     Utf8(&'a [u8]),
     Class(u16),

@@ -10,7 +10,8 @@ use super::op::{push_ops, Op};
 use std::alloc::{AllocError, Global};
 
 /// A method, with the indices of its entries in the constant pool.
-pub struct Method<'a> {
+#[derive(Drop)]
+pub struct Method {
     pub flags: u16,
     pub name: u16,
     pub descriptor: u16,
@@ -18,7 +19,7 @@ pub struct Method<'a> {
     pub code_name: u16,
     pub max_stack: u16,
     pub max_locals: u16,
-    pub code: &'a [Op],
+    pub code: Vec<Op>,
 }
 
 /// Appends a method.
@@ -42,7 +43,7 @@ fn code_content(alloc: Global, written: &Method) -> Result<Vec<u8>, AllocError>
     ensures { IfOk result (λ content. content.items ≡ code_content (method written.now)) }
 {
     let mut code = Vec::new(alloc);
-    push_ops(&mut code, written.code)?;
+    push_ops(&mut code, &written.code)?;
     let mut content = Vec::new(alloc);
     push_u2(&mut content, written.max_stack)?;
     push_u2(&mut content, written.max_locals)?;

@@ -14,7 +14,7 @@ const IRETURN: u8 = 172;
 const INVOKESTATIC: u8 = 184;
 
 /// An instruction.
-#[derive(Clone, Copy, Debug)]
+#[derive(Clone, Copy)]
 pub enum Op {
     /// `iconst_0` to `iconst_5`
     IConst(u8),

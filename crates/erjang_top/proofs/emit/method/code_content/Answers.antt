@@ -2,17 +2,17 @@ use Rattle.std.proofs.Common.{◌≡◌, ◌++◌, ◌<◌, ◌^◌, List, [], �
 use Rattle.std.specs.List.{flat_map}
 use Rattle.erjang_top.specs.ClassFile.{u2, u4, counted, code_bytes, code_content}
 use Rattle.erjang_top.specs.Written.{op, method}
-use Rattle.erjang_top.proofs.Appends.{adds, placed_bytes, code_below}
+use Rattle.erjang_top.proofs.Appends.{adds, ops_are_code, code_below}
 use Rattle.erjang_top.proofs.emit.method.code_content.Goals as goal
 
 pub push_counted-requires : goal.push_counted-requires
 push_counted-requires c =
-    let code : c.deref.result.now ≡ code_bytes (method c.args.written.now) = c.deref.ensures.value ∙ c.in_ok-push_ops.ensures ∙ ap (λ (t : List ℕ). c.new-code.result.items ++ t) (sym (placed_bytes 0 (map op c.args.written.now.code.now))) ∙ ap (λ (t : List ℕ). t ++ code_bytes (method c.args.written.now)) c.new-code.ensures.items in
-    code_below (method c.args.written.now) c.deref.result.now code c.requires.content
+    let code : c.deref-2.result.now ≡ code_bytes (method c.args.written.now) = c.deref-2.ensures.value ∙ c.in_ok-push_ops.ensures ∙ ops_are_code c.args.written.now c.deref.result.now c.new-code.result.items c.deref.ensures.value c.new-code.ensures.items in
+    code_below (method c.args.written.now) c.deref-2.result.now code c.requires.content
 
 pub returns : goal.returns
 returns c =
-    let code : c.deref.result.now ≡ code_bytes (method c.args.written.now) = c.deref.ensures.value ∙ c.in_ok-push_ops.ensures ∙ ap (λ (t : List ℕ). c.new-code.result.items ++ t) (sym (placed_bytes 0 (map op c.args.written.now.code.now))) ∙ ap (λ (t : List ℕ). t ++ code_bytes (method c.args.written.now)) c.new-code.ensures.items in
+    let code : c.deref-2.result.now ≡ code_bytes (method c.args.written.now) = c.deref-2.ensures.value ∙ c.in_ok-push_ops.ensures ∙ ops_are_code c.args.written.now c.deref.result.now c.new-code.result.items c.deref.ensures.value c.new-code.ensures.items in
     let start = c.new-content.result.items in
     let two = adds start _ _ _ _ c.in_ok-push_u2.ensures c.in_ok-push_u2-2.ensures in
     let three = adds start _ _ _ _ two (c.in_ok-push_counted.ensures ∙ ap (λ (t : List ℕ). c.push_u2-2.new.out.items ++ counted t) code) in

@@ -7,5 +7,5 @@ use Rattle.erjang_top.proofs.emit.method.push_methods.Goals as goal
 pub loop-written-preserved : goal.loop-written-preserved
 loop-written-preserved c = record {
   rest_fits = step_all MethodFits c.args.methods.now c.loop-written.written-index c.loop-written.invariant.rest_fits;
-  written = step_written method method_bytes c.args.methods.now c.loop-written.written-index _ _ c.loop-written.out.items c.push_method.new.out.items c.loop-written-test.true c.loop-written.invariant.written c.in_ok-push_method.ensures;
+  written = step_written method method_bytes c.args.methods.now c.loop-written.written-index c.written-item.result _ c.loop-written.out.items c.push_method.new.out.items c.loop-written-test.true c.written-item.is c.loop-written.invariant.written c.in_ok-push_method.ensures;
 }
