@@ -2,7 +2,7 @@
 use Rattle.std.proofs.Common.{◌≡◌, ℕ, ◌+◌, ◌<◌, ◌^◌, List, [], ◌∷◌, ◌++◌, length, get_or, drop, map, subst, refl, sym, ap, ◌∙◌, append_assoc, arith, length-append}
 use Rattle.std.specs.List.{flat_map, AllByRecursion}
 use Rattle.std.proofs.lemmas.List.{drop_more, drop-drop}
-use Rattle.erjang_top.specs.ClassFile.{Op, Method, u2, u4, counted, op_bytes, code_bytes, maps_bytes, code_content}
+use Rattle.erjang_top.specs.ClassFile.{Op, Method, u2, counted, op_bytes, code_bytes, maps_bytes, code_content}
 use Rattle.erjang_top.specs.Written.{op, method, placed}
 use Rattle.erjang_top.specs.declared.emit.method.Method as written_method
 use Rattle.erjang_top.specs.declared.emit.op.Op as written_op

@@ -1,6 +1,6 @@
 -- The class of a module whose one function returns at once.
 use Rattle.std.specs.Prelude.{ℕ, List, [], ◌∷◌, ◌++◌, codes, None}
-use Rattle.erjang_top.specs.ClassFile.{Constant, Gap, Utf8, ClassEntry, Methodref, NameAndType, Width, Short, Op, IConst, ALoad, Invoke, IReturn, Method, Class}
+use Rattle.erjang_top.specs.ClassFile.{Constant, Gap, Utf8, ClassEntry, Methodref, NameAndType, Short, Op, IConst, ALoad, Invoke, IReturn, Method, Class}
 use Rattle.erjang_top.specs.ClassProfile.{method_descriptor}
 
 -- the entries 3 to 16: the superclass, a method's descriptor and attribute, and the runtime methods `take` and

@@ -1,11 +1,11 @@
 -- The types of locals and operands at each instruction (JVMS SE 7, 4.10.1), for the instructions that are
 -- written so far.
-use Rattle.std.specs.Prelude.{◌≡◌, ℕ, ◌+◌, ◌-◌, Bool, true, false, not, nat_eq, nat_le, ◌&&◌, ◌||◌, if◌then◌else◌, List, [], ◌∷◌, ◌++◌, length, reverse, replicate, codes, slice_get, Option, None, Some, unwrap_or, is_none}
+use Rattle.std.specs.Prelude.{ℕ, ◌-◌, Bool, true, false, nat_eq, nat_le, ◌&&◌, ◌||◌, if◌then◌else◌, List, [], ◌∷◌, ◌++◌, length, reverse, replicate, codes, slice_get, Option, None, Some, unwrap_or, is_none}
 use Rattle.std.specs.List.{list_all}
 use Rattle.std.specs.Str.{bytes_eq}
 use Rattle.std.specs.Option.{option_and_then, option_map}
-use Rattle.erjang_top.specs.ClassFile.{Constant, Width, Short, Op, IConst, ALoad, Invoke, IReturn, Method, Class}
-use Rattle.erjang_top.specs.ClassProfile.{Callee, callee_at}
+use Rattle.erjang_top.specs.ClassFile.{Constant, Op, IConst, ALoad, Invoke, IReturn, Method, Class}
+use Rattle.erjang_top.specs.ClassProfile.{callee_at}
 
 -- a verification type (4.10.1.2)
 pub data VType : Type 0 where
@@ -126,7 +126,7 @@ abbrev pub code_typed : List Constant → ℕ → List (ℕ × Frame) → Option
 code_typed pool max_stack maps before [] = is_none before
 code_typed pool max_stack maps before (p ∷ code) =
     unwrap_or (option_map (λ after. within max_stack after && code_typed pool max_stack maps after code)
-        (option_and_then (leaves pool p.1) (standing (frame_at maps p.0) before))) false
+    (option_and_then (leaves pool p.1) (standing (frame_at maps p.0) before))) false
 
 -- the process, the entry number, and locals that hold nothing yet
 abbrev pub first_frame : ℕ → Frame

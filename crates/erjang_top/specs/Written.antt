@@ -1,13 +1,13 @@
 -- The writer's own types, as the classes, methods, entries and instructions of the definition.
 use Rattle.std.specs.Prelude.{ℕ, ◌+◌, ◌≤◌, ◌<◌, ◌^◌, List, [], ◌∷◌, length, map, None}
-use Rattle.std.specs.List.{flat_map, AllByRecursion}
+use Rattle.std.specs.List.{AllByRecursion}
 use Rattle.erjang_top.specs.declared.emit.class.Class as written_class
 use Rattle.erjang_top.specs.declared.emit.constant.Constant as written_constant
 use Rattle.erjang_top.specs.declared.emit.constant.Constant.TheVariants as entry
 use Rattle.erjang_top.specs.declared.emit.method.Method as written_method
 use Rattle.erjang_top.specs.declared.emit.op.Op as written_op
 use Rattle.erjang_top.specs.declared.emit.op.Op.TheVariants as instruction
-use Rattle.erjang_top.specs.ClassFile.{Constant, Gap, Utf8, ClassEntry, Methodref, NameAndType, Short, Op, IConst, ALoad, Invoke, IReturn, Method, Class, op_bytes, code_bytes, code_content}
+use Rattle.erjang_top.specs.ClassFile.{Constant, Gap, Utf8, ClassEntry, Methodref, NameAndType, Short, Op, IConst, ALoad, Invoke, IReturn, Method, Class, op_bytes, code_content}
 
 abbrev pub constant : written_constant.Constant → Constant
 constant (entry.Utf8 bytes) = Utf8 bytes.now

@@ -1,6 +1,6 @@
 //! Writes the class of a module.
 
-ghost use Rattle.std.specs.Prelude.{◌≡◌, ◌<◌, ◌^◌, length, if◌then◌else◌, IfOk};
+ghost use Rattle.std.specs.Prelude.{◌≡◌, ◌<◌, ◌^◌, [], ◌∷◌, length, if◌then◌else◌, IfOk};
 ghost use Rattle.beam_code.specs.Keys.{is_among, key_of};
 ghost use Rattle.beam_code.specs.Thin.{Accepted};
 ghost use Rattle.erjang_top.specs.ClassFile.{class_bytes};
@@ -16,7 +16,7 @@ mod names;
 mod op;
 
 use beam_code::{Function, Module};
-use class::{write_class, Class};
+use class::{Class, write_class};
 use constant::Constant;
 use ej_term::Text;
 use method::Method;
@@ -25,27 +25,46 @@ use op::Op;
 use std::alloc::{AllocError, Global};
 
 const ACC_PUBLIC: u16 = 0x0001;
+
 const ACC_PRIVATE: u16 = 0x0002;
+
 const ACC_STATIC: u16 = 0x0008;
+
 const ACC_SUPER: u16 = 0x0020;
 
 /// The indices of the constant pool's entries that others name.
 const CLASS_NAME: u16 = 1;
+
 const CLASS: u16 = 2;
+
 const OBJECT_NAME: u16 = 3;
+
 const OBJECT: u16 = 4;
+
 const DESCRIPTOR: u16 = 5;
+
 const CODE: u16 = 6;
+
 const RUNTIME_NAME: u16 = 7;
+
 const RUNTIME: u16 = 8;
+
 const TAKE_NAME: u16 = 9;
+
 const TAKE_DESCRIPTOR: u16 = 10;
+
 const TAKE_HEAD: u16 = 11;
+
 const TAKE: u16 = 12;
+
 const GIVE_NAME: u16 = 13;
+
 const GIVE_DESCRIPTOR: u16 = 14;
+
 const GIVE_HEAD: u16 = 15;
+
 const GIVE: u16 = 16;
+
 const METHOD_NAME: u16 = 17;
 
 /// Gives the entered value at place 0 as the result, and answers status 0.
@@ -64,14 +83,21 @@ pub fn emit(alloc: Global, source: &Module) -> Result<Vec<u8>, AllocError>
     requires { Accepted source.now }
     ensures { IfOk result (λ class. Emitted source.now class.items) }
 {
-    match source.functions.as_slice() {
-        [function] => {
-            let class = class_name(alloc, &source.name)?;
-            let method = method_name(alloc, &function.name, function.arity)?;
-            let exported = is_exported(source.exports.as_slice(), &function.name, function.arity);
-            return_class(alloc, &class, &method, method_flags(exported))
-        }
-        _ => unreachable!(),
+    let function = only_function(source);
+    let class = class_name(alloc, &source.name)?;
+    let method = method_name(alloc, &function.name, function.arity)?;
+    let exported = is_exported(source.exports.as_slice(), &function.name, function.arity);
+    return_class(alloc, &class, &method, method_flags(exported))
+}
+
+/// The one function of a module that is compiled.
+fn only_function(source: &Module) -> &Function
+    requires { Accepted source.now }
+    ensures { source.now.functions ≡ result.now ∷ [] }
+{
+    match source.functions.get(0) {
+        Some(function) => function,
+        None => unreachable!(),
     }
 }
 
@@ -79,18 +105,29 @@ pub fn emit(alloc: Global, source: &Module) -> Result<Vec<u8>, AllocError>
 fn is_exported(exports: &[(Text, u8)], name: &Text, arity: u8) -> bool
     ensures { result ≡ is_among exports.now (name.now, arity) }
 {
-    exports.iter().any(|export| *name == export.0 && arity == export.1)
+    exports
+        .iter()
+        .any(|export| *name == export.0 && arity == export.1)
 }
 
 /// Public where the module exports the function, and else private; static.
 fn method_flags(exported: bool) -> u16
     ensures { result ≡ (if exported then 0x0009 else 0x000A) }
 {
-    if exported { ACC_PUBLIC + ACC_STATIC } else { ACC_PRIVATE + ACC_STATIC }
+    if exported {
+        ACC_PUBLIC + ACC_STATIC
+    } else {
+        ACC_PRIVATE + ACC_STATIC
+    }
 }
 
 /// The bytes of a class of that name, whose one method has that name and those flags, and returns at once.
-fn return_class<'a>(alloc: Global, class: &'a [u8], method: &'a [u8], flags: u16) -> Result<Vec<u8>, AllocError>
+fn return_class<'a>(
+    alloc: Global,
+    class: &'a [u8],
+    method: &'a [u8],
+    flags: u16,
+) -> Result<Vec<u8>, AllocError>
     requires class { length class.now < 2 ^ 16 }
     requires method { length method.now < 2 ^ 16 }
     ensures { IfOk result (λ bytes. bytes.items ≡ class_bytes (return_class class.now method.now flags)) }

@@ -5,12 +5,14 @@ ghost use Rattle.erjang_top.specs.ClassFile.{class_bytes};
 ghost use Rattle.erjang_top.specs.Written.{class, ClassFits};
 
 use super::bytes::{push_u2, push_u4};
-use super::constant::{push_constants, Constant};
-use super::method::{push_methods, Method};
+use super::constant::{Constant, push_constants};
+use super::method::{Method, push_methods};
 use std::alloc::{AllocError, Global};
 
 const MAGIC: u32 = 0xCAFE_BABE;
+
 const MINOR_VERSION: u16 = 0;
+
 const MAJOR_VERSION: u16 = 50;
 
 /// A class, with the entries of its constant pool from index 1 on, and the indices of its own name's entry and

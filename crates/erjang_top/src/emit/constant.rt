@@ -9,8 +9,11 @@ use super::bytes::push_u2;
 use std::alloc::AllocError;
 
 const TAG_UTF8: u8 = 1;
+
 const TAG_CLASS: u8 = 7;
+
 const TAG_METHODREF: u8 = 10;
+
 const TAG_NAME_AND_TYPE: u8 = 12;
 
 /// An entry, with the indices of those that it names.

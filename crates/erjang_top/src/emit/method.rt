@@ -6,7 +6,7 @@ ghost use Rattle.erjang_top.specs.ClassFile.{code_content, method_bytes};
 ghost use Rattle.erjang_top.specs.Written.{method, MethodFits};
 
 use super::bytes::{push_counted, push_u2};
-use super::op::{push_ops, Op};
+use super::op::{Op, push_ops};
 use std::alloc::{AllocError, Global};
 
 /// A method, with the indices of its entries in the constant pool.

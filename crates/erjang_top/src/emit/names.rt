@@ -62,5 +62,9 @@ fn upper_digit(digit: u8) -> u8
     requires { digit < 16 }
     ensures { result ≡ upper_digit digit }
 {
-    if digit < 10 { b'0' + digit } else { b'A' + (digit - 10) }
+    if digit < 10 {
+        b'0' + digit
+    } else {
+        b'A' + (digit - 10)
+    }
 }

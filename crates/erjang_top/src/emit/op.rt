@@ -9,8 +9,11 @@ use super::bytes::push_u2;
 use std::alloc::AllocError;
 
 const ICONST_0: u8 = 3;
+
 const ALOAD_0: u8 = 42;
+
 const IRETURN: u8 = 172;
+
 const INVOKESTATIC: u8 = 184;
 
 /// An instruction.

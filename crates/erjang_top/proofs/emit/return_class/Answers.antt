@@ -1,8 +1,7 @@
-use Rattle.std.proofs.Common.{◌≡◌, ◌<◌, ◌≤◌, ◌^◌, length, ℕ, List, [], ◌∷◌, ◌++◌, lit<, subst, ap, map, Result, arith}
+use Rattle.std.proofs.Common.{◌≡◌, [], ◌∷◌, lit<, subst}
 use Rattle.std.specs.Result.{IfOk}
 use Rattle.erjang_top.specs.ClassFile.{Gap, Method, Class, class_bytes}
-use Rattle.erjang_top.specs.Template.{entries, return_class, return_method}
-use Rattle.erjang_top.specs.Written.{method, ClassFits}
+use Rattle.erjang_top.specs.Template.{entries}
 use Rattle.erjang_top.proofs.emit.return_class.Goals as goal
 
 pub write_class-requires : goal.write_class-requires

@@ -1,4 +1,4 @@
-use Rattle.std.proofs.Common.{◌≡◌, ◌<◌, ◌^◌, length, ℕ, List, lit<, lit≤, subst, sym, map, None}
+use Rattle.std.proofs.Common.{◌<◌, ◌^◌, length, List, lit<, lit≤, subst, sym, map, None}
 use Rattle.std.specs.List.{AllByRecursion}
 use Rattle.erjang_top.specs.declared.emit.op.Op as written_op
 use Rattle.erjang_top.specs.ClassFile.{code_content}

@@ -1,7 +1,6 @@
-use Rattle.std.proofs.Common.{◌≡◌, ◌++◌, ◌<◌, ◌^◌, List, [], ℕ, length, ap, ◌∙◌, sym, map, arith, length-append}
-use Rattle.std.specs.List.{flat_map}
-use Rattle.erjang_top.specs.ClassFile.{u2, u4, counted, code_bytes, code_content}
-use Rattle.erjang_top.specs.Written.{op, method}
+use Rattle.std.proofs.Common.{◌≡◌, ◌++◌, List, ℕ, ap, ◌∙◌}
+use Rattle.erjang_top.specs.ClassFile.{counted, code_bytes, code_content}
+use Rattle.erjang_top.specs.Written.{method}
 use Rattle.erjang_top.proofs.Appends.{adds, ops_are_code, code_below}
 use Rattle.erjang_top.proofs.emit.method.code_content.Goals as goal
 

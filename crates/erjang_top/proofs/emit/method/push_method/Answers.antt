@@ -1,4 +1,4 @@
-use Rattle.std.proofs.Common.{◌≡◌, ◌++◌, List, ℕ, ap, ◌∙◌}
+use Rattle.std.proofs.Common.{◌++◌, List, ℕ, ap, ◌∙◌}
 use Rattle.erjang_top.specs.ClassFile.{counted}
 use Rattle.erjang_top.proofs.Appends.{adds}
 use Rattle.erjang_top.proofs.emit.method.push_method.Goals as goal

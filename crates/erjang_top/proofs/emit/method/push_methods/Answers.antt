@@ -1,4 +1,3 @@
-use Rattle.std.proofs.Common.{◌≡◌, ◌++◌, ◌+◌, List, ℕ, drop, map, length}
 use Rattle.erjang_top.specs.ClassFile.{method_bytes}
 use Rattle.erjang_top.specs.Written.{method, MethodFits}
 use Rattle.erjang_top.proofs.Appends.{step_written, step_all}
