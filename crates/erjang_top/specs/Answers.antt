@@ -1,5 +1,5 @@
 -- What the program answers to each status, what it says, and what stands afterwards.
-use Rattle.std.specs.Prelude.{◌≡◌, ◌≢◌, ℕ, ◌-◌, ◌^◌, ◌<◌, ◌≤◌, ◌⊎◌, List, [], ◌∷◌, ◌++◌, length, take, codes, Option, None, Some, IfSome, IsSomeAnd}
+use Rattle.std.specs.Prelude.{◌≡◌, ◌≢◌, ℕ, ◌+◌, ◌-◌, ◌^◌, ◌<◌, ◌≤◌, ◌⊎◌, List, [], ◌∷◌, ◌++◌, length, take, codes, Option, None, Some, IfSome, IsSomeAnd, MatchOption}
 use Rattle.std.specs.Option.{option_map}
 use Rattle.std.specs.FinMap as files
 use Rattle.beam_code.specs.declared.module.Module.{Module}

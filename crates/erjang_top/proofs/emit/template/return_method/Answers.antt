@@ -3,7 +3,7 @@ use Rattle.std.specs.List.{AllByRecursion}
 use Rattle.erjang_top.specs.declared.emit.op.Op as written_op
 use Rattle.erjang_top.specs.ClassFile.{code_content}
 use Rattle.erjang_top.specs.Written.{op, op_fits, placed}
-use Rattle.erjang_top.proofs.emit.return_method.Goals as goal
+use Rattle.erjang_top.proofs.emit.template.return_method.Goals as goal
 
 pub returns-clause-fits : goal.returns-clause-fits
 returns-clause-fits c =

@@ -2,7 +2,7 @@ use Rattle.std.proofs.Common.{◌≡◌, [], ◌∷◌, lit<, subst}
 use Rattle.std.specs.Result.{IfOk}
 use Rattle.erjang_top.specs.ClassFile.{Gap, Method, Class, class_bytes}
 use Rattle.erjang_top.specs.Template.{entries}
-use Rattle.erjang_top.proofs.emit.return_class.Goals as goal
+use Rattle.erjang_top.proofs.emit.template.return_class.Goals as goal
 
 pub write_class-requires : goal.write_class-requires
 write_class-requires c = record {
