@@ -7,92 +7,9 @@ use Rattle.std.specs.Option.{option_and_then}
 use Rattle.std.proofs.lemmas.Bool.{and_parts, eqb-true}
 use Rattle.erjang_top.specs.ClassFile.{Constant, Gap, Utf8, ClassEntry, Methodref, NameAndType, Short, Op, IConst, ALoad, Invoke, IReturn, Method, Class, u2, u4, counted, constant_bytes, op_bytes, code_bytes, maps_bytes, code_content, method_bytes, class_bytes}
 use Rattle.erjang_top.specs.ClassProfile.{utf8_in, class_in, name_and_type_in, callee_in, IsEntry, IsPool, IsOp, has_offsets, Reads, IsMethod, InProfile, ClassOf}
+use Rattle.erjang_top.proofs.EntryLaw.{ConstantFits, constant-tells}
+use Rattle.erjang_top.proofs.OpLaw.{OpFits, same_code}
 use Rattle.erjang_top.proofs.Spelling.{SameThen, Tells, u2-tells, u4-tells, counted-tells, flat_map-tells, same_front}
-
--- ---- constants
-
--- the indices fit two bytes
-abbrev pub ConstantFits : Constant → Type 0
-ConstantFits Gap = ⊥
-ConstantFits (Utf8 bytes) = length bytes < 2 ^ 16
-ConstantFits (ClassEntry name) = name < 2 ^ 16
-ConstantFits (Methodref class name_and_type) = (class < 2 ^ 16) × (name_and_type < 2 ^ 16)
-ConstantFits (NameAndType name descriptor) = (name < 2 ^ 16) × (descriptor < 2 ^ 16)
-
-utf8-tells : (xs ys r s : List ℕ) → length xs < 2 ^ 16 → length ys < 2 ^ 16 → (u2 (length xs) ++ xs) ++ r ≡ (u2 (length ys) ++ ys) ++ s → SameThen xs ys r s
-utf8-tells xs ys r s f g e =
-    let p = u2-tells (length xs) (length ys) (xs ++ r) (ys ++ s) f g e in
-    same_front xs ys r s p.0 p.1
-
-pair-tells : (a b c d : ℕ) (r s : List ℕ) → (a < 2 ^ 16) × (b < 2 ^ 16) → (c < 2 ^ 16) × (d < 2 ^ 16) → (u2 a ++ u2 b) ++ r ≡ (u2 c ++ u2 d) ++ s → (a ≡ c) × (b ≡ d) × (r ≡ s)
-pair-tells a b c d r s f g e =
-    let p = u2-tells a c (u2 b ++ r) (u2 d ++ s) f.0 g.0 e in
-    let q = u2-tells b d r s f.1 g.1 p.1 in
-    (p.0, q.0, q.1)
-
-first_same : (x y : ℕ) (r s : List ℕ) → x ∷ r ≡ y ∷ s → x ≡ y
-first_same x y r s e = cc
-
-rest_same : (x y : ℕ) (r s : List ℕ) → x ∷ r ≡ y ∷ s → r ≡ s
-rest_same x y r s e = cc
-
-pub constant-tells : Tells ConstantFits constant_bytes
-constant-tells Gap y r s f g e = absurd f
-constant-tells x Gap r s f g e = absurd g
-constant-tells (Utf8 a) (Utf8 b) r s f g e = let p = utf8-tells a b r s f g (rest_same 1 1 _ _ e) in (ap Utf8 p.0, p.1)
-constant-tells (ClassEntry a) (ClassEntry b) r s f g e = let p = u2-tells a b r s f g (rest_same 7 7 _ _ e) in (ap ClassEntry p.0, p.1)
-constant-tells (Methodref a b) (Methodref c d) r s f g e = let p = pair-tells a b c d r s f g (rest_same 10 10 _ _ e) in (cc (p.0, p.1), p.2)
-constant-tells (NameAndType a b) (NameAndType c d) r s f g e = let p = pair-tells a b c d r s f g (rest_same 12 12 _ _ e) in (cc (p.0, p.1), p.2)
-constant-tells x y r s f g e = absurd (omega (arith, first_same _ _ _ _ e))
-
--- ---- instructions
-
--- the operands fit their bytes
-abbrev pub OpFits : Op → Type 0
-OpFits (IConst value) = value ≤ 5
-OpFits (ALoad Short local) = local ≤ 3
-OpFits (Invoke index) = index < 2 ^ 16
-OpFits IReturn = Unit {0}
-
-pub op-tells : Tells OpFits op_bytes
-op-tells (IConst a) (IConst b) r s f g e = let p : a ≡ b = omega (arith, first_same _ _ _ _ e) in (ap IConst p, rest_same _ _ _ _ e)
-op-tells (ALoad Short a) (ALoad Short b) r s f g e = let p : a ≡ b = omega (arith, first_same _ _ _ _ e) in (ap (ALoad Short) p, rest_same _ _ _ _ e)
-op-tells (Invoke a) (Invoke b) r s f g e = let p = u2-tells a b r s f g (rest_same 184 184 _ _ e) in (ap Invoke p.0, p.1)
-op-tells IReturn IReturn r s f g e = (refl, rest_same _ _ _ _ e)
-op-tells (ALoad Short a) y r s f g e = absurd (omega (arith, first_same _ _ _ _ e))
-op-tells x (ALoad Short a) r s f g e = absurd (omega (arith, first_same _ _ _ _ e))
-op-tells x y r s f g e = absurd (omega (arith, first_same _ _ _ _ e))
-
-same_under_2 : {A B C : Type 0} (f : A → B → C) (a c : A) (b d : B) → a ≡ c → b ≡ d → f a b ≡ f c d
-same_under_2 f a c b d p q = cc
-
-abbrev pair_of : {A B : Type 0} → A → B → A × B
-pair_of a b = (a, b)
-
-same_item : (a b : ℕ) (o p : Op) (xs ys : List (ℕ × Op)) → a ≡ b → o ≡ p → xs ≡ ys → (a, o) ∷ xs ≡ (b, p) ∷ ys
-same_item a b o p xs ys d e f = cc
-
--- the code tells its instructions, whose offsets are those of their bytes
-pub same_code : (at : ℕ) (xs ys : List (ℕ × Op)) → has_offsets at xs ≡ true → has_offsets at ys ≡ true
-    → AllByRecursion (λ p. OpFits p.1) xs → AllByRecursion (λ p. OpFits p.1) ys
-    → flat_map (λ p. op_bytes p.1) xs ≡ flat_map (λ p. op_bytes p.1) ys → xs ≡ ys
-same_code at [] [] h k f g e = refl
-same_code at [] ((_, IConst a) ∷ ys) h k f g e = absurd cc
-same_code at [] ((_, ALoad Short a) ∷ ys) h k f g e = absurd cc
-same_code at [] ((_, Invoke a) ∷ ys) h k f g e = absurd cc
-same_code at [] ((_, IReturn) ∷ ys) h k f g e = absurd cc
-same_code at ((_, IConst a) ∷ xs) [] h k f g e = absurd cc
-same_code at ((_, ALoad Short a) ∷ xs) [] h k f g e = absurd cc
-same_code at ((_, Invoke a) ∷ xs) [] h k f g e = absurd cc
-same_code at ((_, IReturn) ∷ xs) [] h k f g e = absurd cc
-same_code at (x ∷ xs) (y ∷ ys) h k f g e =
-    let a = and_parts _ _ h in
-    let b = and_parts _ _ k in
-    let offset : x.0 ≡ y.0 = eqb-true _ _ a.0 ∙ sym (eqb-true _ _ b.0) in
-    let p = op-tells x.1 y.1 (flat_map (λ p. op_bytes p.1) xs) (flat_map (λ p. op_bytes p.1) ys) f.0 g.0 e in
-    let there : has_offsets (at + length (op_bytes x.1)) ys ≡ true = subst (λ (op : Op). has_offsets (at + length (op_bytes op)) ys ≡ true) (sym p.0) b.1 in
-    let rest = same_code (at + length (op_bytes x.1)) xs ys a.1 there f.1 g.1 p.1 in
-    same_item x.0 y.0 x.1 y.1 xs ys offset p.0 rest
 
 -- ---- indices of the pool
 
@@ -134,6 +51,19 @@ same_pool (Gap ∷ xs) ys r s f g l e = absurd g
 same_pool xs ys r s f g l e = absurd f
 
 -- ---- methods
+
+first_same : (x y : ℕ) (r s : List ℕ) → x ∷ r ≡ y ∷ s → x ≡ y
+first_same x y r s e = cc
+
+rest_same : (x y : ℕ) (r s : List ℕ) → x ∷ r ≡ y ∷ s → r ≡ s
+rest_same x y r s e = cc
+
+same_pair : {A B C : Type 0} (f : A → B → C) (a c : A) (b d : B) → a ≡ c → b ≡ d → f a b ≡ f c d
+same_pair f a c b d p q = cc
+
+abbrev pair_of : {A B : Type 0} → A → B → A × B
+pair_of a b = (a, b)
+
 
 abbrev pub MapsFit : Option (ℕ × List ℕ) → Type 0
 MapsFit None = Unit {0}
@@ -181,7 +111,7 @@ same_maps (Some a) None f g e = absurd (omega (arith, first_same _ _ _ _ (rest_s
 same_maps (Some a) (Some b) f g e =
     let p = u2-tells a.0 b.0 (counted a.1) (counted b.1) f.0 g.0 (rest_same _ _ _ _ (rest_same _ _ _ _ e)) in
     let q = counted-tells a.1 b.1 [] [] f.1 g.1 (ap (λ (t : List ℕ). t ++ []) p.1) in
-    ap Some (same_under_2 pair_of a.0 b.0 a.1 b.1 p.0 q.0)
+    ap Some (same_pair pair_of a.0 b.0 a.1 b.1 p.0 q.0)
 
 same_content : (m n : Method) → MethodFits m → MethodFits n → code_content m ≡ code_content n → (m.max_stack ≡ n.max_stack) × (m.max_locals ≡ n.max_locals) × (m.code ≡ n.code) × (m.maps ≡ n.maps)
 same_content m n f g e =

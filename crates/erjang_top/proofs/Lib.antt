@@ -1,4 +1,6 @@
 pub mod Spelling
 pub mod Appends
+pub mod EntryLaw
+pub mod OpLaw
 pub mod ClassLaw
 pub mod ReturnClass

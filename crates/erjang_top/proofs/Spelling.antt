@@ -1,5 +1,5 @@
 -- Spellings that end where they end: from the bytes of a value and any others behind them, both are known.
-use Rattle.std.proofs.Common.{◌≡◌, ℕ, ◌<◌, ◌^◌, List, [], ◌∷◌, ◌++◌, length, refl, sym, ap, ◌∙◌, append_assoc, arith}
+use Rattle.std.proofs.Common.{Option, None, Some, unwrap_or, take, drop, ◌≡◌, ℕ, ◌<◌, ◌^◌, List, [], ◌∷◌, ◌++◌, length, refl, sym, ap, ◌∙◌, append_assoc, arith}
 use Rattle.std.specs.List.{flat_map, AllByRecursion}
 use Rattle.std.specs.Int.{from_be_bytes, w16, w32}
 use Rattle.std.proofs.lemmas.Nat.{from_be_bytes-to_be_bytes_2, from_be_bytes-to_be_bytes_4}
@@ -50,3 +50,29 @@ flat_map-tells InRange spell tells (x ∷ xs) (y ∷ ys) r s l f g e =
     let first = tells x y (flat_map spell xs ++ r) (flat_map spell ys ++ s) f.0 g.0 (sym (append_assoc (spell x) (flat_map spell xs) r) ∙ e ∙ append_assoc (spell y) (flat_map spell ys) s) in
     let rest = flat_map-tells InRange spell tells xs ys r s (omega arith) f.1 g.1 first.1 in
     (cc (first.0, rest.0), rest.1)
+
+-- what a reader takes from the front: a value, and the bytes behind it
+abbrev pub Reader : Type 0 → Type 0
+Reader X = List ℕ → Option (X × List ℕ)
+
+abbrev pub took : {X : Type 0} → X → List ℕ → Option (X × List ℕ)
+took x rest = Some (x, rest)
+
+abbrev pub then_read : {X Y : Type 0} → Option (X × List ℕ) → (X → Reader Y) → Option (Y × List ℕ)
+then_read None next = None
+then_read (Some p) next = next p.0 p.1
+
+-- the reader takes a value back from its spelling
+abbrev pub ReadsBack : {X : Type 0} → (X → Type 0) → (X → List ℕ) → Reader X → Type 0
+ReadsBack {X} InRange spell read = (x : X) (rest : List ℕ) → InRange x → read (spell x ++ rest) ≡ took x rest
+
+-- one clause a kind of value shows that its spelling tells it
+pub tells_from_reads : {X : Type 0} (InRange : X → Type 0) (spell : X → List ℕ) (read : Reader X) → ReadsBack InRange spell read → Tells InRange spell
+tells_from_reads InRange spell read back x y r s f g e =
+    let same = sym (back x r f) ∙ ap read e ∙ back y s g in
+    (ap (λ (o : Option _). (unwrap_or o (x, r)).0) same, ap (λ (o : Option _). (unwrap_or o (x, r)).1) same)
+
+abbrev pub read_u2 : Reader ℕ
+read_u2 [] = None
+read_u2 (a ∷ []) = None
+read_u2 (a ∷ b ∷ rest) = Some (from_be_bytes w16 (a ∷ b ∷ []), rest)
