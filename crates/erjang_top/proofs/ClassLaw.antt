@@ -1,15 +1,14 @@
 -- Bytes have at most one class: each part of a class file tells its value and where it ends.
 use Rattle.std.proofs.lemmas.Nat.{and_le_r}
-use Rattle.std.proofs.Common.{bit_and, ◌≡◌, ℕ, zero, suc, codes, inl, inr, is_some, length-append, ◌+◌, ◌<◌, ◌≤◌, ◌^◌, true, List, [], ◌∷◌, ◌++◌, length, slice_get, Option, None, Some, refl, sym, ap, subst, ◌∙◌, append_assoc, arith}
+use Rattle.std.proofs.Common.{bit_and, ◌≡◌, ℕ, zero, suc, codes, inl, inr, is_some, length-append, ◌<◌, ◌^◌, true, List, [], ◌∷◌, ◌++◌, length, slice_get, Option, None, Some, refl, sym, ap, ◌∙◌, append_assoc, arith}
 use Rattle.std.specs.Prelude.{IsSome, MatchOption}
 use Rattle.std.specs.List.{flat_map, AllByRecursion}
 use Rattle.std.specs.Option.{option_and_then}
-use Rattle.std.proofs.lemmas.Bool.{and_parts, eqb-true}
-use Rattle.erjang_top.specs.ClassFile.{Constant, Gap, Utf8, ClassEntry, Methodref, NameAndType, Short, Op, IConst, ALoad, Invoke, IReturn, Method, Class, u2, u4, counted, constant_bytes, op_bytes, code_bytes, maps_bytes, code_content, method_bytes, class_bytes}
+use Rattle.erjang_top.specs.ClassFile.{Constant, Gap, Utf8, ClassEntry, Methodref, NameAndType, Short, Op, IConst, ALoad, Invoke, IReturn, Method, Class, u2, u4, counted, constant_bytes, code_bytes, maps_bytes, code_content, method_bytes, class_bytes}
 use Rattle.erjang_top.specs.ClassProfile.{utf8_in, class_in, name_and_type_in, callee_in, IsEntry, IsPool, IsOp, has_offsets, Reads, IsMethod, InProfile, ClassOf}
 use Rattle.erjang_top.proofs.EntryLaw.{ConstantFits, constant-tells}
 use Rattle.erjang_top.proofs.OpLaw.{OpFits, same_code}
-use Rattle.erjang_top.proofs.Spelling.{SameThen, Tells, u2-tells, u4-tells, counted-tells, flat_map-tells, same_front}
+use Rattle.erjang_top.proofs.Spelling.{SameThen, Tells, u2-tells, u4-tells, counted-tells, flat_map-tells}
 
 -- ---- indices of the pool
 
@@ -63,7 +62,6 @@ same_pair f a c b d p q = cc
 
 abbrev pair_of : {A B : Type 0} → A → B → A × B
 pair_of a b = (a, b)
-
 
 abbrev pub MapsFit : Option (ℕ × List ℕ) → Type 0
 MapsFit None = Unit {0}

@@ -3,4 +3,5 @@ pub mod Appends
 pub mod EntryLaw
 pub mod OpLaw
 pub mod ClassLaw
+pub mod NameText
 pub mod ReturnClass
