@@ -76,3 +76,16 @@ abbrev pub read_u2 : Reader ℕ
 read_u2 [] = None
 read_u2 (a ∷ []) = None
 read_u2 (a ∷ b ∷ rest) = Some (from_be_bytes w16 (a ∷ b ∷ []), rest)
+
+-- items one after the other and nothing behind them, where no item has no bytes
+pub flat_map_same : {X : Type 0} (InRange : X → Type 0) (spell : X → List ℕ) (read : Reader X) → ReadsBack InRange spell read → read [] ≡ None
+    → (xs ys : List X) → AllByRecursion InRange xs → AllByRecursion InRange ys → flat_map spell xs ≡ flat_map spell ys → xs ≡ ys
+flat_map_same InRange spell read back none [] [] f g e = refl
+flat_map_same InRange spell read back none [] (y ∷ ys) f g e =
+    let absent : took y (flat_map spell ys) ≡ None = sym (back y (flat_map spell ys) g.0) ∙ ap read (sym e) ∙ none in cc
+flat_map_same InRange spell read back none (x ∷ xs) [] f g e =
+    let absent : took x (flat_map spell xs) ≡ None = sym (back x (flat_map spell xs) f.0) ∙ ap read e ∙ none in cc
+flat_map_same InRange spell read back none (x ∷ xs) (y ∷ ys) f g e =
+    let first = tells_from_reads InRange spell read back x y (flat_map spell xs) (flat_map spell ys) f.0 g.0 e in
+    let rest = flat_map_same InRange spell read back none xs ys f.1 g.1 first.1 in
+    cc (first.0, rest)
