@@ -1,6 +1,6 @@
 -- The name of a class tells its module, and the name of a method its function's name and arity.
-use Rattle.std.proofs.Common.{◌≡◌, ◌≢◌, ℕ, ◌+◌, ◌-◌, ◌*◌, ◌/◌, ◌%◌, ◌<◌, ◌≤◌, ◌^◌, inl, inr, Bool, true, false, not, nat_eq, nat_lt, ◌&&◌, if◌then◌else◌, List, [], ◌∷◌, ◌++◌, None, codes, encode_utf8_all, map, refl, sym, ap, subst, ◌∙◌, append_assoc, arith}
-use Rattle.std.specs.List.{flat_map, list_all, AllByRecursion, IsDistinct}
+use Rattle.std.proofs.Common.{◌≡◌, ℕ, ◌+◌, ◌-◌, ◌*◌, ◌/◌, ◌%◌, ◌<◌, inl, inr, Bool, true, false, not, nat_eq, nat_lt, if◌then◌else◌, List, [], ◌∷◌, ◌++◌, None, codes, encode_utf8_all, map, refl, sym, ap, subst, ◌∙◌, append_assoc, arith}
+use Rattle.std.specs.List.{list_all, AllByRecursion, IsDistinct}
 use Rattle.std.specs.Str.{bytes_eq}
 use Rattle.std.proofs.lemmas.Map.Keys.{IsDistinct-cons, IsDistinct-from_apart}
 use Rattle.std.proofs.lemmas.Slice.Eq.{bytes_eq-Decides}
@@ -12,7 +12,7 @@ use Rattle.std.proofs.lemmas.List.{append_cancel_left, append_cancel_right}
 use Rattle.std.proofs.lemmas.Nat.{div-add-mod'}
 use Rattle.std.proofs.lemmas.Str.{encodes_same}
 use Rattle.erjang_top.specs.Mangle.{is_kept, upper_digit, mangle_byte, mangle, class_name, method_name}
-use Rattle.erjang_top.proofs.Spelling.{Reader, took, ReadsBack, flat_map_same}
+use Rattle.erjang_top.proofs.Spelling.{Reader, took, flat_map_same}
 
 -- ---- mangled bytes
 
@@ -92,8 +92,8 @@ method_of key = method_name key.0 key.1
 other_method : (key other : Key) → key.1 < 256 → other.1 < 256 → same_key key other ≡ false → bytes_eq (method_of key) (method_of other) ≡ false
 other_method key other lt lt' h =
     false_from_ne_true _ (λ same.
-        let p = method_name_tells key.0 other.0 key.1 other.1 lt lt' ((bytes_eq-Decides (method_of key) (method_of other)).0 same) in
-        both_ways (same_key key other) h (and_from _ _ ((bytes_eq-Decides key.0 other.0).1 p.0) (eq-eqb key.1 other.1 p.1)))
+    let p = method_name_tells key.0 other.0 key.1 other.1 lt lt' ((bytes_eq-Decides (method_of key) (method_of other)).0 same) in
+    both_ways (same_key key other) h (and_from _ _ ((bytes_eq-Decides key.0 other.0).1 p.0) (eq-eqb key.1 other.1 p.1)))
 
 other_methods : (key : Key) (keys : List Key) → key.1 < 256 → AllByRecursion (λ k. k.1 < 256) keys → is_among keys key ≡ false
     → AllByRecursion (λ name. bytes_eq (method_of key) name ≡ false) (map method_of keys)
