@@ -1,6 +1,6 @@
 //! The names of classes and methods.
 
-ghost use Rattle.std.specs.Prelude.{◌≡◌, ◌++◌, ◌<◌, IsTrue, IfOk, OnOk};
+ghost use Rattle.std.specs.Prelude.{◌≡◌, ◌++◌, ◌<◌, IfOk, OnOk};
 ghost use Rattle.std.specs.List.{flat_map};
 ghost use Rattle.erjang_top.specs.Mangle.{is_kept, upper_digit, mangle_byte, class_name, method_name};
 
@@ -52,12 +52,14 @@ fn push_mangled_byte(out: &mut Vec<u8>, byte: u8) -> Result<(), AllocError>
     }
 }
 
+/// Whether a byte is a letter, a digit or `_`.
 fn is_kept(byte: u8) -> bool
     ensures { result ≡ is_kept byte }
 {
     byte.is_ascii_alphanumeric() || byte == b'_'
 }
 
+/// A hexadecimal digit, 0 to 9 and A to F.
 fn upper_digit(digit: u8) -> u8
     requires { digit < 16 }
     ensures { result ≡ upper_digit digit }

@@ -15,7 +15,7 @@ const ACC_PUBLIC: u16 = 0x0001;
 
 const ACC_SUPER: u16 = 0x0020;
 
-/// The indices of the constant pool's entries that others name.
+// The indices of the entries of the constant pool that others name.
 const CLASS_NAME: u16 = 1;
 
 const CLASS: u16 = 2;
