@@ -10,3 +10,11 @@ pub mod ReadLemmas
 mod Said
 mod Worked
 mod Answered
+pub mod Spelling
+pub mod Appends
+pub mod EntryLaw
+pub mod OpLaw
+pub mod ClassLaw
+pub mod NameLaw
+pub mod NameText
+pub mod ReturnClass

@@ -1,10 +1,10 @@
 -- Which classes there are: numbers that fit their fields, indices of entries of the right kind (JVMS SE 7,
 -- 4.4 to 4.7), and what this project's profile leaves of class files.
-use Rattle.std.specs.Prelude.{◌≡◌, ◌≢◌, ℕ, ◌+◌, ◌-◌, ◌/◌, ◌%◌, ◌^◌, ◌<◌, ◌≤◌, ◌⊎◌, Bool, true, nat_eq, nat_lt, ◌&&◌, if◌then◌else◌, List, [], ◌∷◌, ◌++◌, length, map, codes, slice_get, Option, None, Some, IsSome, MatchOption, unwrap_or, bit_and}
+use Rattle.std.specs.Prelude.{◌≡◌, ◌≢◌, ℕ, ◌+◌, ◌/◌, ◌%◌, ◌^◌, ◌<◌, ◌≤◌, ◌⊎◌, Bool, true, nat_eq, nat_lt, ◌&&◌, if◌then◌else◌, List, [], ◌∷◌, length, map, codes, slice_get, Option, None, Some, IsSome, MatchOption, unwrap_or, bit_and}
 use Rattle.std.specs.List.{flat_map, AllByRecursion, IsDistinct}
 use Rattle.std.specs.Str.{bytes_eq, all_scalars}
 use Rattle.std.specs.Option.{option_and_then}
-use Rattle.erjang_top.specs.ClassFile.{Constant, Gap, Utf8, ClassEntry, Methodref, NameAndType, Width, Short, Op, IConst, ALoad, Invoke, IReturn, Method, Class, op_bytes, code_bytes, code_content, class_bytes}
+use Rattle.erjang_top.specs.ClassFile.{Constant, Gap, Utf8, ClassEntry, Methodref, NameAndType, Short, Op, IConst, ALoad, Invoke, IReturn, Method, Class, op_bytes, code_bytes, code_content, class_bytes}
 use Rattle.erjang_top.specs.Mangle.{class_name, method_name}
 
 -- a UTF-16 unit in modified UTF-8 (4.4.7): 0 takes two bytes, and a surrogate three like every unit from 2,048 on

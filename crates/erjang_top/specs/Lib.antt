@@ -7,6 +7,8 @@ pub mod Emitted
 pub mod Shape
 pub mod ShapeModule
 pub mod ShapeSound
+pub mod Template
+pub mod Written
 pub mod Source
 pub mod Words
 pub mod Answers

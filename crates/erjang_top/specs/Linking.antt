@@ -1,9 +1,9 @@
 -- Which methods an instruction may name: those of the same class, and those of the runtime class `erl/Rt`.
-use Rattle.std.specs.Prelude.{ℕ, Bool, true, false, ◌&&◌, ◌||◌, List, [], ◌∷◌, codes, Option, None, Some, unwrap_or}
+use Rattle.std.specs.Prelude.{ℕ, Bool, true, false, ◌&&◌, ◌||◌, List, [], ◌∷◌, codes, unwrap_or}
 use Rattle.std.specs.Option.{option_map}
 use Rattle.std.specs.List.{list_any, list_all}
 use Rattle.std.specs.Str.{bytes_eq}
-use Rattle.erjang_top.specs.ClassFile.{Op, IConst, ALoad, Invoke, IReturn, Method, Class}
+use Rattle.erjang_top.specs.ClassFile.{Op, Invoke, Class}
 use Rattle.erjang_top.specs.ClassProfile.{Callee, callee_at, class_at, utf8_at}
 
 -- the runtime methods that are used so far, by name and descriptor: the entered value at a place, and the result

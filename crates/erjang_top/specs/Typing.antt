@@ -1,11 +1,11 @@
 -- The types of locals and operands at each instruction (JVMS SE 7, 4.10.1), for the instructions that are
 -- written so far.
-use Rattle.std.specs.Prelude.{◌≡◌, ℕ, ◌+◌, ◌-◌, Bool, true, false, not, nat_eq, nat_le, ◌&&◌, ◌||◌, if◌then◌else◌, List, [], ◌∷◌, ◌++◌, length, reverse, replicate, codes, slice_get, Option, None, Some, unwrap_or, is_none}
+use Rattle.std.specs.Prelude.{ℕ, ◌-◌, Bool, true, false, nat_eq, nat_le, ◌&&◌, ◌||◌, if◌then◌else◌, List, [], ◌∷◌, ◌++◌, length, reverse, replicate, codes, slice_get, Option, None, Some, unwrap_or, is_none}
 use Rattle.std.specs.List.{list_all}
 use Rattle.std.specs.Str.{bytes_eq}
 use Rattle.std.specs.Option.{option_and_then, option_map}
-use Rattle.erjang_top.specs.ClassFile.{Constant, Width, Short, Op, IConst, ALoad, Invoke, IReturn, Method, Class}
-use Rattle.erjang_top.specs.ClassProfile.{Callee, callee_at}
+use Rattle.erjang_top.specs.ClassFile.{Constant, Op, IConst, ALoad, Invoke, IReturn, Method, Class}
+use Rattle.erjang_top.specs.ClassProfile.{callee_at}
 
 -- a verification type (4.10.1.2)
 pub data VType : Type 0 where

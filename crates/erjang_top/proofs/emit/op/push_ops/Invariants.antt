@@ -1,0 +1,11 @@
+use Rattle.std.proofs.Common.{◌≡◌, ◌++◌, map, drop}
+use Rattle.std.specs.List.{flat_map, AllByRecursion}
+use Rattle.erjang_top.specs.ClassFile.{op_bytes}
+use Rattle.erjang_top.specs.Written.{op, op_fits}
+use Rattle.erjang_top.proofs.emit.op.push_ops.Given as goal
+
+abbrev pub invariant-loop-instruction : goal.invariant-loop-instruction
+invariant-loop-instruction l = record {
+  rest_fits : AllByRecursion op_fits (drop l.instruction-index l.code);
+  written : l.out.items ++ flat_map op_bytes (map op (drop l.instruction-index l.code)) ≡ l.initial.out.items ++ flat_map op_bytes (map op l.code);
+}
