@@ -16,6 +16,13 @@ const SOURCE: &str =
 const CLASS: [u8; 225] =
     *b"\xca\xfe\xba\xbe\x00\x00\x002\x00\x12\x01\x00\x07erl/m/m\x07\x00\x01\x01\x00\x10java/lang/Object\x07\x00\x03\x01\x00\x0e(Lerl/Proc;I)I\x01\x00\x04Code\x01\x00\x06erl/Rt\x07\x00\x07\x01\x00\x04take\x01\x00\x17(Lerl/Proc;I)Lerl/Term;\x0c\x00\x09\x00\x0a\x0a\x00\x08\x00\x0b\x01\x00\x04give\x01\x00\x17(Lerl/Proc;Lerl/Term;)V\x0c\x00\x0d\x00\x0e\x0a\x00\x08\x00\x0f\x01\x00\x04f__1\x00!\x00\x02\x00\x04\x00\x00\x00\x00\x00\x01\x00\x09\x00\x11\x00\x05\x00\x01\x00\x06\x00\x00\x00\x17\x00\x03\x00\x02\x00\x00\x00\x0b**\x03\xb8\x00\x0c\xb8\x00\x10\x03\xac\x00\x00\x00\x00\x00\x00";
 
+// A source whose names and numbers are at their edges, and its class, spelled likewise.
+const EDGE_SOURCE: &[u8] =
+    b"{module,a@b}.\n{exports,[]}.\n{attributes,[]}.\n{labels,4294967295}.\n{function,f_G9@,255,0}.\n{label,4294967295}.\n{line,[]}.\n{func_info,{atom,a@b},{atom,f_G9@},255}.\n{label,0}.\nreturn.\n";
+
+const EDGE_CLASS: &[u8] =
+    b"\xca\xfe\xba\xbe\x00\x00\x002\x00\x12\x01\x00\x0berl/m/a$40b\x07\x00\x01\x01\x00\x10java/lang/Object\x07\x00\x03\x01\x00\x0e(Lerl/Proc;I)I\x01\x00\x04Code\x01\x00\x06erl/Rt\x07\x00\x07\x01\x00\x04take\x01\x00\x17(Lerl/Proc;I)Lerl/Term;\x0c\x00\x09\x00\x0a\x0a\x00\x08\x00\x0b\x01\x00\x04give\x01\x00\x17(Lerl/Proc;Lerl/Term;)V\x0c\x00\x0d\x00\x0e\x0a\x00\x08\x00\x0f\x01\x00\x0cf_G9$40__255\x00!\x00\x02\x00\x04\x00\x00\x00\x00\x00\x01\x00\x0a\x00\x11\x00\x05\x00\x01\x00\x06\x00\x00\x00\x17\x00\x03\x00\x02\x00\x00\x00\x0b**\x03\xb8\x00\x0c\xb8\x00\x10\x03\xac\x00\x00\x00\x00\x00\x00";
+
 const USAGE: &[u8] =
     b"usage: erjang compile OUTDIR FILE... | beam SCRIPT FILE... | run SCRIPT CLASS... | verify CLASS... | sample N\n";
 
@@ -69,6 +76,20 @@ fn compiles_the_plainest_source(rt: HostRuntime) -> Result<(), Fail> {
     assert_eq!(rt; ran.shelf.held("o/m.class"), Some(CLASS.as_slice()));
     assert_eq!(rt; ran.shelf.held(NAME), Some(SOURCE.as_bytes()));
     assert!(rt; ran.out.taken().is_empty() && ran.err.taken().is_empty());
+    Ok(())
+}
+
+#[test]
+fn compiles_names_and_numbers_at_their_edges(rt: HostRuntime) -> Result<(), Fail> {
+    let alloc = rt.alloc();
+    let ran = run(
+        alloc,
+        &["compile", "o/p", NAME],
+        EDGE_SOURCE,
+        Vec::new(alloc),
+    )?;
+    assert_eq!(rt; ran.status, 0);
+    assert_eq!(rt; ran.shelf.held("o/p/a$40b.class"), Some(EDGE_CLASS));
     Ok(())
 }
 
