@@ -1,0 +1,10 @@
+{module,identity}.
+{exports,[{identity,1}]}.
+{attributes,[]}.
+{labels,3}.
+{function,identity,1,2}.
+{label,1}.
+{line,[]}.
+{func_info,{atom,identity},{atom,identity},1}.
+{label,2}.
+return.
