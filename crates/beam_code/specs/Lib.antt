@@ -5,3 +5,4 @@ pub mod LabelRules
 pub mod Slots
 pub mod Weights
 pub mod Thin
+pub mod Turn

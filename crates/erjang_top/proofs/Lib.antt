@@ -18,3 +18,6 @@ pub mod ClassLaw
 pub mod NameLaw
 pub mod NameText
 pub mod ReturnClass
+pub mod BeamSide
+pub mod ClassSide
+pub mod SameRuns

@@ -43,7 +43,7 @@ chars-name name plain =
 pub one-distinct : (fs : List Function) (f : Function) → fs ≡ f ∷ [] → are_distinct fs ≡ true
 one-distinct fs f e = ap are_distinct e
 
-key-itself : (key : Key) → same_key key key ≡ true
+pub key-itself : (key : Key) → same_key key key ≡ true
 key-itself key =
     let name = (bytes_eq-Decides key.0 key.0).1 refl in
     let arity : nat_eq key.1 key.1 ≡ true = grind (arith, nat_tests) in

@@ -13,6 +13,7 @@ use Rattle.std.specs.Result.{IfOk}
 use Rattle.erjang_top.specs.ClassFile.{Gap, class_bytes}
 use Rattle.erjang_top.specs.Emitted.{method_flags, method_head, Emitted}
 use Rattle.erjang_top.proofs.ClassLaw.{only_class}
+use Rattle.erjang_top.proofs.SameRuns.{runs-as}
 use Rattle.erjang_top.specs.ClassProfile.{IsPool, IsMethod, InProfile, ClassOf}
 use Rattle.erjang_top.specs.Mangle.{class_name, method_name}
 use Rattle.erjang_top.specs.Typing.{typed}
@@ -143,6 +144,7 @@ emitted m f bytes a e lt spelled =
       methods = sym (ap (map (method_head m)) e);
       is_typed = is_typed (class_name m.name) (method_name f.name f.arity) (method_flags m f);
       is_linked = is_linked (class_name m.name) (method_name f.name f.arity) (method_flags m f);
+      runs = runs-as m f a e lt;
     }
 
 -- ---- in the code

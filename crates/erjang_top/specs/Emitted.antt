@@ -7,6 +7,7 @@ use Rattle.erjang_top.specs.ClassFile.{Method, Class}
 use Rattle.erjang_top.specs.ClassProfile.{ClassOf, class_at, utf8_at}
 use Rattle.erjang_top.specs.Linking.{linked}
 use Rattle.erjang_top.specs.Mangle.{class_name, method_name}
+use Rattle.erjang_top.specs.Runs.{RunsAs}
 use Rattle.erjang_top.specs.Typing.{typed}
 
 -- public and static where the module exports the function, and else private and static
@@ -22,7 +23,7 @@ abbrev pub head_in : Class → Method → ℕ × Option (List ℕ)
 head_in c method = (method.flags, utf8_at c.pool method.name)
 
 -- The bytes have exactly one class, of the module's class name, with one method for each function in order,
--- named and flagged for it, and it is typed and linked.
+-- named and flagged for it; it is typed and linked, and it runs as the module.
 pub record Emitted (m : Module) (bytes : List ℕ) : Type 0 where
   pub class : Class
   pub is : ClassOf bytes class
@@ -31,3 +32,4 @@ pub record Emitted (m : Module) (bytes : List ℕ) : Type 0 where
   pub methods : map (head_in class) class.methods ≡ map (method_head m) m.functions
   pub is_typed : typed class ≡ true
   pub is_linked : linked class ≡ true
+  pub runs : RunsAs m class

@@ -13,3 +13,5 @@ pub mod Source
 pub mod Words
 pub mod Answers
 pub mod Work
+pub mod ClassTurn
+pub mod Runs
