@@ -1,14 +1,14 @@
 -- What BEAM code does: one instruction, one turn, and how a process begins (OTP 24, `genop.tab`; Erlang Reference
 -- Manual, "Errors and Error Handling" and "Processes"). It knows the instructions as one flat list, in which labels are
 -- searched.
-use Rattle.std.specs.Prelude.{ℕ, zero, suc, ◌+◌, ◌-◌, ◌*◌, Bool, true, nat_eq, if◌then◌else◌, List, [], ◌∷◌, ◌++◌, length, map, sum, codes, slice_get, unwrap_or, Option, None, Some}
+use Rattle.std.specs.Prelude.{ℕ, zero, suc, ◌+◌, ◌-◌, ◌*◌, Bool, nat_eq, if◌then◌else◌, List, [], ◌∷◌, length, map, sum, codes, slice_get, unwrap_or, Option, None, Some}
 use Rattle.std.specs.Option.{option_and_then, option_map}
 use Rattle.std.specs.List.{flat_map}
 use Rattle.std.specs.Str.{bytes_eq}
 use Rattle.ej_term.specs.declared.class.Class3.{Class3}
 use Rattle.ej_term.specs.declared.class.Class3.TheVariants.{Error, Exit, Throw}
 use Rattle.ej_term.specs.Term.{Term, Atom, Nil, Cons, tuple}
-use Rattle.ej_world.specs.World.{Begin, Call, Event, Raise, Answer}
+use Rattle.ej_world.specs.World.{Begin, Call, Raise, Answer}
 use Rattle.ej_world.specs.Run.{Outcome, Runs, Waits, Ended, Turned, Code}
 use Rattle.beam_code.specs.declared.module.Function.{Function}
 use Rattle.beam_code.specs.declared.module.Module.{Module}

@@ -1,3 +1,4 @@
 pub mod Term
 pub mod Atoms
 pub mod Print
+pub mod TermPrint

@@ -1,5 +1,5 @@
 -- Erlang terms (Erlang Reference Manual, "Data Types"), without floats, bit strings and ports.
-use Rattle.std.specs.Prelude.{ℕ, ℤ, Bool, List, [], ◌∷◌, codes}
+use Rattle.std.specs.Prelude.{ℕ, ℤ, Bool, List, [], ◌∷◌}
 
 mutual
   pub data Term : Type 0 where
@@ -11,13 +11,18 @@ mutual
     Pid : (node number : ℕ) → Term
     Tuple : (parts : Terms) → Term
     -- by rising keys, each once
-    Map : (keys values : Terms) → Term
+    Map : (pairs : Pairs) → Term
     Nil : Term
     Cons : (head tail : Term) → Term
 
   pub data Terms : Type 0 where
     None : Terms
     More : (first : Term) (rest : Terms) → Terms
+
+  -- keys with their values
+  pub data Pairs : Type 0 where
+    Empty : Pairs
+    Pair : (key value : Term) (rest : Pairs) → Pairs
 
 abbrev pub terms : List Term → Terms
 terms [] = None

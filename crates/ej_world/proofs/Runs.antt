@@ -1,7 +1,6 @@
 -- Codes that agree have the same runs.
-use Rattle.std.proofs.Common.{◌≡◌, ℕ, zero, suc, ◌+◌, ◌<◌, Bool, true, false, nat_lt, List, [], ◌∷◌, ◌++◌, length, Option, None, Some, refl, sym, ap, ◌∙◌, subst}
+use Rattle.std.proofs.Common.{◌≡◌, ℕ, zero, suc, ◌+◌, ◌<◌, Bool, true, false, nat_lt, List, [], ◌∷◌, ◌++◌, length, Option, None, Some, refl, ap, ◌∙◌, subst}
 use Rattle.std.specs.Prelude.{slice_get, slice_set, if◌then◌else◌}
-use Rattle.ej_term.specs.Term.{Term, Atom, list}
 use Rattle.ej_world.specs.World.{Begin, Call, Choice, Start, Run, Event, Turn, Ready}
 use Rattle.ej_world.specs.World as event
 use Rattle.ej_world.specs.Run.{Outcome, Runs, Waits, Ended, Turned, Code, Status, Running, Waiting, Done, Process, World, last_pid, is_ready, ready_from, status_after, end_events, depth_after, Chosen, ran, nothing, run_process, started, choose, run_from, empty_world, run}

@@ -1,6 +1,6 @@
 -- When two codes agree: they do the same from beginnings that are asked for, turn by turn.
 use Rattle.std.specs.Prelude.{◌≡◌, ℕ, ◌<◌, ◌≤◌, List, [], ◌∷◌, length}
-use Rattle.ej_term.specs.Term.{Term, Atom, list}
+use Rattle.ej_term.specs.Term.{Atom, list}
 use Rattle.ej_world.specs.World.{Begin, Call, Choice, Start, Run}
 use Rattle.ej_world.specs.Run.{Outcome, Runs, Waits, Ended, Turned, Code}
 

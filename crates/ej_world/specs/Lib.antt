@@ -1,3 +1,4 @@
 pub mod World
 pub mod Run
 pub mod Agree
+pub mod Lines

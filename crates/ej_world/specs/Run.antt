@@ -1,5 +1,5 @@
 -- Runs of a code, choice by choice.
-use Rattle.std.specs.Prelude.{ℕ, ◌+◌, ◌^◌, Bool, true, false, nat_lt, if◌then◌else◌, List, [], ◌∷◌, ◌++◌, length, codes, slice_get, slice_set, Option, None, Some}
+use Rattle.std.specs.Prelude.{ℕ, ◌+◌, ◌^◌, Bool, true, false, nat_lt, if◌then◌else◌, List, [], ◌∷◌, ◌++◌, length, slice_get, slice_set, Option, None, Some}
 use Rattle.ej_term.specs.Term.{Term, Atom, list}
 use Rattle.ej_world.specs.World.{Begin, Call, Choice, Start, Run, Event, Exit, Turn, Idle, Ready}
 use Rattle.ej_world.specs.World as event

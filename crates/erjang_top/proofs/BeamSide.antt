@@ -1,6 +1,6 @@
 -- What the BEAM code of a module of a sound shape does in a first turn.
-use Rattle.std.proofs.Common.{◌≡◌, ◌≢◌, ℕ, zero, suc, ◌+◌, ◌-◌, ◌*◌, ◌<◌, ◌≤◌, arith, Bool, true, false, ◌&&◌, nat_eq, List, [], ◌∷◌, ◌++◌, map, sum, length, codes, Option, None, Some, refl, sym, ap, ◌∙◌, subst, append-nil}
-use Rattle.std.specs.Prelude.{if◌then◌else◌, slice_get, unwrap_or}
+use Rattle.std.proofs.Common.{◌≡◌, ◌≢◌, ℕ, suc, ◌+◌, ◌-◌, ◌*◌, arith, Bool, true, false, ◌&&◌, nat_eq, List, [], ◌∷◌, ◌++◌, map, sum, length, codes, None, Some, refl, ap, ◌∙◌, append-nil}
+use Rattle.std.specs.Prelude.{slice_get, unwrap_or}
 use Rattle.std.specs.Option.{option_map, option_and_then}
 use Rattle.std.specs.Str.{bytes_eq}
 use Rattle.std.specs.List.{flat_map}
@@ -8,13 +8,13 @@ use Rattle.std.proofs.lemmas.Bool.Decides.{nat_tests}
 use Rattle.ej_term.specs.declared.class.Class3.TheVariants.{Error}
 use Rattle.ej_term.specs.Term.{Term, Atom, list}
 use Rattle.ej_world.specs.World.{Begin, Call, Event, Raise, Answer}
-use Rattle.ej_world.specs.Run.{Outcome, Ended, Turned}
+use Rattle.ej_world.specs.Run.{Ended, Turned}
 use Rattle.beam_code.specs.declared.module.Function.{Function}
 use Rattle.beam_code.specs.declared.module.Module.{Module}
-use Rattle.beam_code.specs.Keys.{Key, same_key, key_of, is_among}
+use Rattle.beam_code.specs.Keys.{same_key, key_of, is_among}
 use Rattle.beam_code.specs.LabelRules.{opcodes}
-use Rattle.beam_code.specs.Opcode.{Opcode, Label, Line, FuncInfo, Return}
-use Rattle.beam_code.specs.Turn.{instructions, is_label, place_of, Machine, next_place, act, answer, go, State, Begun, At, end_reason, uncaught, returned, step, walk, most_steps, list_of, machine_at, entry_of, enters, loaded, resolved, enter, bad_call, first_turn, turn}
+use Rattle.beam_code.specs.Opcode.{Opcode, Label, FuncInfo, Return}
+use Rattle.beam_code.specs.Turn.{instructions, place_of, Machine, next_place, act, answer, go, State, Begun, At, end_reason, returned, walk, most_steps, list_of, machine_at, entry_of, resolved, enter, bad_call, turn}
 use Rattle.erjang_top.specs.Shape.{Shape}
 use Rattle.erjang_top.specs.ShapeModule.{line_code, shape_code, IsFunction, HasShape}
 use Rattle.erjang_top.specs.ShapeSound.{IsSound}
@@ -104,8 +104,8 @@ resolves : (s : Shape) (m : Module) → HasShape s m → IsSound s → (owner na
     → resolved (m ∷ []) owner name args ≡ Some (machine_at m args (entry_place s.has_line))
 resolves s m h sound owner name args here exported named counted =
     rw here (rw exported (
-      ap (λ entry. option_map (machine_at m args) (option_and_then (λ e. place_of e 0 (instructions m)) entry)) entry
-      ∙ ap (option_map (machine_at m args)) (ap (place_of s.entry 0) (module-code s m h) ∙ place-entry s sound.labels)
+    ap (λ entry. option_map (machine_at m args) (option_and_then (λ e. place_of e 0 (instructions m)) entry)) entry
+    ∙ ap (option_map (machine_at m args)) (ap (place_of s.entry 0) (module-code s m h) ∙ place-entry s sound.labels)
     ))
   where
     f : IsFunction s h.function
@@ -132,6 +132,6 @@ beam-returns s m h sound me n owner name x xs here exported named counted =
     let steps : most_steps (m ∷ []) n ≡ suc (suc (most_steps (m ∷ []) n - 2)) = at-least-two n (sum (map (λ (k : Module). length (instructions k)) (m ∷ []))) in
     let code = module-code s m h in
     let walked = ap (λ k. walk k me n mach) steps
-          ∙ walk-return (most_steps (m ∷ []) n - 2) me n s.entry mach x (ap (λ c. slice_get c (entry_place s.has_line)) code ∙ at-entry s) (ap (λ c. slice_get c (entry_place s.has_line + 1)) code ∙ behind-entry s) refl refl in
+    ∙ walk-return (most_steps (m ∷ []) n - 2) me n s.entry mach x (ap (λ c. slice_get c (entry_place s.has_line)) code ∙ at-entry s) (ap (λ c. slice_get c (entry_place s.has_line + 1)) code ∙ behind-entry s) refl refl in
     let is = entered ∙ walked in
     record { events = ap (λ (t : Turned State). t.events) is; outcome = ap (λ (t : Turned State). t.outcome) is }

@@ -1,16 +1,14 @@
 -- What the class of a function that returns at once does in a first turn.
-use Rattle.std.proofs.Common.{◌≡◌, ℕ, zero, suc, ◌+◌, ◌-◌, ◌*◌, ◌<◌, ◌≤◌, arith, Bool, true, false, ◌&&◌, nat_eq, List, [], ◌∷◌, ◌++◌, map, length, codes, Option, None, Some, refl, sym, ap, ◌∙◌}
-use Rattle.std.specs.Prelude.{if◌then◌else◌, unwrap_or, pos}
-use Rattle.std.specs.Option.{option_map, option_and_then}
+use Rattle.std.proofs.Common.{◌≡◌, ℕ, suc, ◌+◌, ◌-◌, ◌*◌, ◌<◌, arith, true, false, ◌&&◌, nat_eq, List, [], ◌∷◌, map, length, codes, None, Some, refl, ap, ◌∙◌}
+use Rattle.std.specs.Prelude.{unwrap_or, pos}
+use Rattle.std.specs.Option.{option_map}
 use Rattle.std.specs.Str.{bytes_eq}
 use Rattle.ej_term.specs.Term.{Term, Atom, list}
-use Rattle.ej_world.specs.World.{Begin, Call, Event, Raise, Answer}
-use Rattle.ej_world.specs.Run.{Outcome, Ended, Turned}
+use Rattle.ej_world.specs.World.{Begin, Call, Raise, Answer}
+use Rattle.ej_world.specs.Run.{Turned}
 use Rattle.ej_term.specs.declared.class.Class3.TheVariants.{Error}
-use Rattle.erjang_top.specs.ClassFile.{Method, Class}
-use Rattle.erjang_top.specs.ClassProfile.{class_at}
-use Rattle.erjang_top.specs.ClassTurn.{Value, OfTerm, Goes, Held, nothing_held, Activation, activation, Ran, Status, run_method, State, Begun, At, by_status, after_run, enter, instructions_each, loaded, exported, resolved, uncaught, begin_at, first_turn, turn}
-use Rattle.erjang_top.specs.Linking.{text_at}
+use Rattle.erjang_top.specs.ClassFile.{Class}
+use Rattle.erjang_top.specs.ClassTurn.{OfTerm, Goes, Held, nothing_held, activation, Status, run_method, State, Begun, enter, instructions_each, resolved, uncaught, begin_at, turn}
 use Rattle.erjang_top.specs.Mangle.{class_name, method_name}
 use Rattle.erjang_top.specs.Template.{return_class, return_method}
 use Rattle.erjang_top.proofs.BeamSide.{Does, undef_reason, list-of}
@@ -58,10 +56,10 @@ class-returns class method flags me n owner name x xs some is =
     let left : (n + 1) * instructions_each ≡ suc (suc (suc (suc (suc (suc (suc ((n + 1) * instructions_each - 7))))))) = omega arith in
     let d = enter-returns class method flags (n - 1) me ((n + 1) * instructions_each - 7) x xs in
     let runs =
-          begins (return_class class method flags ∷ []) me n owner name (x ∷ xs)
-          ∙ ap (begin_at me n (Begun (how_of owner name (x ∷ xs)))) is
-          ∙ ap (λ k. enter k me ((n + 1) * instructions_each) goes held) transfers
-          ∙ ap (λ k. enter (suc (n - 1)) me k goes held) left in
+    begins (return_class class method flags ∷ []) me n owner name (x ∷ xs)
+    ∙ ap (begin_at me n (Begun (how_of owner name (x ∷ xs)))) is
+    ∙ ap (λ k. enter k me ((n + 1) * instructions_each) goes held) transfers
+    ∙ ap (λ k. enter (suc (n - 1)) me k goes held) left in
     record { events = ap (λ (t : Turned State). t.events) runs ∙ d.events; outcome = ap (λ (t : Turned State). t.outcome) runs ∙ d.outcome }
 
 -- which start enters the method

@@ -1,5 +1,5 @@
 -- One more export.
-use Rattle.std.proofs.Common.{◌≡◌, ℕ, zero, suc, ◌+◌, List, [], ◌∷◌, ◌++◌, codes, refl, sym, ap, ◌∙◌, append_assoc, add-one, arith, nat_lt, true, replicate}
+use Rattle.std.proofs.Common.{◌≡◌, ℕ, zero, suc, ◌+◌, List, [], ◌∷◌, ◌++◌, codes, refl, sym, ap, ◌∙◌, append_assoc, add-one, arith, nat_lt, true}
 use Rattle.std.specs.Fmt.{decimal}
 use Rattle.std.proofs.lemmas.Bool.Decides.{nat_tests}
 use Rattle.erjang_top.specs.Shape.{Shape, export_of, exports_of, comma_before, module_line, exports_line, attributes_line, labels_line, function_line, label_line, line_text, info_line, return_line, header_text, body_text}

@@ -21,3 +21,4 @@ pub mod ReturnClass
 pub mod BeamSide
 pub mod ClassSide
 pub mod SameRuns
+mod WorkedLemmas

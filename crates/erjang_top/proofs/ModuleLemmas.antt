@@ -1,21 +1,16 @@
 -- Making the module of a shape.
-use Rattle.std.proofs.Common.{◌≡◌, ℕ, zero, suc, ◌+◌, ◌<◌, ◌≤◌, arith, Bool, true, false, not, ◌&&◌, ◌||◌, nat_eq, nat_lt, nat_le, List, [], ◌∷◌, ◌++◌, map, length, replicate, encode_utf8_all, refl, sym, ap, ◌∙◌, append_assoc}
-use Rattle.std.specs.List.{list_all, list_any}
-use Rattle.std.specs.Str.{chars, bytes_eq}
+use Rattle.std.proofs.Common.{◌≡◌, ℕ, zero, suc, ◌<◌, arith, true, nat_eq, List, [], ◌∷◌, ◌++◌, replicate, encode_utf8_all, refl, sym, ap, ◌∙◌}
+use Rattle.std.specs.List.{list_all}
+use Rattle.std.specs.Str.{chars}
 use Rattle.std.proofs.Math.Utf8.{scalars, low_scalar}
 use Rattle.std.proofs.lemmas.Bool.Decides.{nat_tests}
 use Rattle.std.proofs.lemmas.Slice.Eq.{bytes_eq-Decides}
 use Rattle.std.proofs.lemmas.Str.{chars-encodes, encode_ascii}
 use Rattle.ej_term.specs.Atoms.{is_name_character}
-use Rattle.beam_code.specs.declared.instr.Instr.{Instr}
 use Rattle.beam_code.specs.declared.module.Function.{Function}
-use Rattle.beam_code.specs.Forms.{opcode}
 use Rattle.beam_code.specs.Keys.{Key, same_key, key_of, is_among, are_distinct, are_exports}
-use Rattle.beam_code.specs.Opcode.{Opcode, Label, Line, FuncInfo, Return}
 use Rattle.beam_code.specs.Thin.{is_thin_name}
-use Rattle.erjang_top.specs.Shape.{Shape}
-use Rattle.erjang_top.specs.ShapeModule.{line_code, shape_code, IsFunction}
-use Rattle.erjang_top.proofs.WordsLemmas.{IsWord, and_left, and_right}
+use Rattle.erjang_top.proofs.WordsLemmas.{and_left, and_right}
 use Rattle.erjang_top.proofs.ThinShape.{name-word}
 
 -- a name character is ASCII

@@ -1,5 +1,5 @@
 -- Reading a thin text, and nothing else.
-use Rattle.std.proofs.Common.{◌≡◌, ℕ, ◌+◌, ◌<◌, ◌≤◌, ◌^◌, arith, Bool, true, false, not, nat_le, List, [], refl, sym, ap, ◌∙◌}
+use Rattle.std.proofs.Common.{◌≡◌, ℕ, ◌<◌, ◌^◌, arith, Bool, true, false, not, List, [], refl, sym, ap, ◌∙◌}
 use Rattle.std.proofs.lemmas.Bool.Decides.{nat_tests}
 use Rattle.std.specs.Str.{bytes_eq}
 use Rattle.std.proofs.lemmas.Slice.Eq.{bytes_eq-Decides}
@@ -11,7 +11,7 @@ use Rattle.erjang_top.specs.ShapeSound.{IsSound}
 use Rattle.erjang_top.proofs.ShapeAccepted.{shape-accepted}
 use Rattle.erjang_top.proofs.ShapeText.{shape-text}
 use Rattle.erjang_top.proofs.ShapeWords.{shape-words}
-use Rattle.erjang_top.proofs.ThinShape.{name-word, HasSound, thin-shape}
+use Rattle.erjang_top.proofs.ThinShape.{name-word, thin-shape}
 
 -- the words of a thin text are its shape's
 pub thin-words : (bytes : List ℕ) (m : Module) (thin : Thin bytes m) → words_from [] bytes ≡ shape_words (thin-shape bytes m thin).shape

@@ -1,16 +1,15 @@
 -- The class of a function that returns at once runs as its module.
-use Rattle.std.proofs.Common.{◌≡◌, ◌≢◌, ℕ, zero, suc, ◌+◌, ◌<◌, ◌≤◌, arith, Bool, true, false, ◌&&◌, ◌||◌, nat_eq, List, [], ◌∷◌, ◌++◌, length, codes, replicate, Option, None, Some, refl, sym, ap, ◌∙◌, subst}
+use Rattle.std.proofs.Common.{◌≡◌, ℕ, zero, suc, ◌<◌, ◌≤◌, arith, Bool, true, false, ◌&&◌, ◌||◌, nat_eq, List, [], ◌∷◌, length, codes, replicate, refl, sym, ap, ◌∙◌, subst}
 use Rattle.std.specs.Prelude.{if◌then◌else◌}
 use Rattle.std.specs.Bool.{Decides}
-use Rattle.std.specs.List.{list_any}
 use Rattle.std.specs.Str.{bytes_eq}
 use Rattle.std.proofs.lemmas.Bool.Decides.{nat_tests, same_from_decides}
 use Rattle.std.proofs.lemmas.Slice.Eq.{bytes_eq-Decides}
 use Rattle.ej_term.specs.declared.class.Class3.TheVariants.{Error}
 use Rattle.ej_term.specs.Term.{Term, Atom, list}
 use Rattle.ej_world.specs.World.{Begin, Call, Choice, Start, Run, Event, Raise, Answer}
-use Rattle.ej_world.specs.Run.{Outcome, Ended, Turned, Code}
-use Rattle.ej_world.specs.Agree.{Keeps, SameTurn, Agree, IsChoice, IsScript}
+use Rattle.ej_world.specs.Run.{Turned}
+use Rattle.ej_world.specs.Agree.{Keeps, SameTurn, Agree, IsScript}
 use Rattle.ej_world.proofs.Runs.{run_same}
 use Rattle.beam_code.specs.declared.module.Function.{Function}
 use Rattle.beam_code.specs.declared.module.Module.{Module}
@@ -24,10 +23,7 @@ use Rattle.erjang_top.specs.ClassTurn as class_turn
 use Rattle.erjang_top.specs.ClassTurn.{jvm}
 use Rattle.erjang_top.specs.Emitted.{method_flags}
 use Rattle.erjang_top.specs.Mangle.{class_name, method_name}
-use Rattle.erjang_top.specs.Runs.{IsPlainChoice, IsPlainScript, RunsAs}
-use Rattle.erjang_top.specs.Shape.{Shape, InRange}
-use Rattle.erjang_top.specs.ShapeModule.{HasShape}
-use Rattle.erjang_top.specs.ShapeSound.{IsSound}
+use Rattle.erjang_top.specs.Runs.{IsPlainScript, RunsAs}
 use Rattle.erjang_top.specs.Template.{return_class}
 use Rattle.erjang_top.proofs.WordsLemmas.{and_left, and_right}
 use Rattle.erjang_top.proofs.ModuleLemmas.{key-itself}
@@ -56,11 +52,11 @@ method-test f g a b small small' =
     let names = bytes_eq-Decides (method_name f a) (method_name g b) in
     let by_name : Decides (bytes_eq (method_name f a) (method_name g b)) ((g ≡ f) × (b ≡ a)) = (
       λ e. let p = method_name_tells f g a b small small' (names.0 e) in (sym p.0, sym p.1),
-      λ p. names.1 (ap (λ n. method_name n a) (sym p.0) ∙ ap (method_name g) (sym p.1))
+      λ p. names.1 (ap (λ n. method_name n a) (sym p.0) ∙ ap (method_name g) (sym p.1)),
     ) in
     let by_key : Decides (same_key (g, b) (f, a)) ((g ≡ f) × (b ≡ a)) = (
       λ e. ((bytes_eq-Decides g f).0 (and_left (bytes_eq g f) (nat_eq b a) e), same-number b a (and_right (bytes_eq g f) (nat_eq b a) e)),
-      λ p. both-true (bytes_eq g f) (nat_eq b a) ((bytes_eq-Decides g f).1 p.0) (equal b a p.1)
+      λ p. both-true (bytes_eq g f) (nat_eq b a) ((bytes_eq-Decides g f).1 p.0) (equal b a p.1),
     ) in
     same_from_decides _ _ by_name by_key
   where
@@ -174,8 +170,8 @@ module _ (m : Module) (f : Function) (a : Accepted m) (only : m.functions ≡ f 
           same-turn (Answer me x ∷ []) (Atom (codes "normal")) _ _
           (beam-returns sound.shape m sound.has sound.sound me n owner name x xs here e (name' ∙ named) (arity' ∙ counted))
           (class-returns (class_name m.name) (method_name f.name f.arity) (method_flags m f) me n owner name x xs some
-            (class_side.resolves (class_name m.name) (method_name f.name f.arity) (method_flags m f) owner name (x ∷ xs) (class-test m.name owner ∙ here)
-              (export-test m f sound.shape.exports name (length (x ∷ xs)) exports small (omega (arith, few')) ∙ e)))
+          (class_side.resolves (class_name m.name) (method_name f.name f.arity) (method_flags m f) owner name (x ∷ xs) (class-test m.name owner ∙ here)
+          (export-test m f sound.shape.exports name (length (x ∷ xs)) exports small (omega (arith, few')) ∙ e)))
 
   turns : (me n : ℕ) (s : beam_turn.State) (t : class_turn.State) → 0 < n → BothBegun s t → SameTurn BothBegun (beam_turn.turn (m ∷ []) me n s) (class_turn.turn (c ∷ []) me n t)
   turns me n s t some both =
@@ -184,7 +180,7 @@ module _ (m : Module) (f : Function) (a : Accepted m) (only : m.functions ≡ f 
       let t' : t ≡ class_turn.Begun (how_of call.owner call.name call.args) = both.class_is ∙ ap (λ h. class_turn.Begun h) call.is in
       subst (λ u. SameTurn BothBegun (beam_turn.turn (m ∷ []) me n u) (class_turn.turn (c ∷ []) me n t)) (sym s')
       (subst (λ u. SameTurn BothBegun (beam_turn.turn (m ∷ []) me n (beam_turn.Begun (how_of call.owner call.name call.args))) (class_turn.turn (c ∷ []) me n u)) (sym t')
-        (first me n call.owner call.name call.args call.few some _ _ refl refl))
+      (first me n call.owner call.name call.args call.few some _ _ refl refl))
 
   agree : Agree (beam (m ∷ [])) (jvm (c ∷ [])) BothBegun IsCall
   agree = record {

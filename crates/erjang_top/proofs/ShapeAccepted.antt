@@ -1,17 +1,17 @@
 -- The module of a sound shape is accepted.
-use Rattle.std.proofs.Common.{◌≡◌, ◌≢◌, ℕ, zero, suc, ◌+◌, ◌*◌, ◌<◌, ◌≤◌, ◌^◌, arith, Bool, true, false, not, ◌&&◌, ◌||◌, nat_eq, nat_lt, nat_le, List, [], ◌∷◌, ◌++◌, map, sum, length, Option, None, Some, refl, sym, ap, ◌∙◌, subst, append-nil}
-use Rattle.std.specs.Prelude.{if◌then◌else◌, MatchOption}
-use Rattle.std.specs.List.{list_all, list_any, filter_map, flat_map, AllByRecursion}
+use Rattle.std.proofs.Common.{◌≡◌, ◌≢◌, ℕ, ◌+◌, ◌*◌, ◌<◌, ◌≤◌, arith, Bool, true, false, ◌&&◌, nat_eq, nat_lt, nat_le, List, [], ◌∷◌, ◌++◌, map, sum, length, None, Some, refl, sym, ap, ◌∙◌, subst, append-nil}
+use Rattle.std.specs.Prelude.{if◌then◌else◌}
+use Rattle.std.specs.List.{list_all, filter_map, flat_map, AllByRecursion}
 use Rattle.std.specs.Str.{bytes_eq}
 use Rattle.std.proofs.lemmas.Bool.Decides.{nat_tests}
 use Rattle.std.proofs.lemmas.Slice.Eq.{bytes_eq-Decides}
 use Rattle.beam_code.specs.declared.module.Function.{Function}
 use Rattle.beam_code.specs.declared.module.Module.{Module}
-use Rattle.beam_code.specs.LabelRules.{opcodes, defined_label, is_head, is_beginning, begins_well, labels_of, no_label_twice, meets_label_rules}
-use Rattle.beam_code.specs.Opcode.{Opcode, Label, Line, FuncInfo, Return}
-use Rattle.beam_code.specs.Slots.{Kind, Undefined, Term, BelowKind, State, Below, Assignment, GoesTo, Walk, entry_state, Good, WellSlotted}
-use Rattle.beam_code.specs.Weights.{weight, pool_weight, fits, instruction_weight}
-use Rattle.beam_code.specs.Thin.{has_thin_names, is_thin_name, is_count, has_counts, function_in_range, returns_at_once, is_return_body, Accepted}
+use Rattle.beam_code.specs.LabelRules.{opcodes, defined_label, is_head, is_beginning, begins_well, labels_of, no_label_twice}
+use Rattle.beam_code.specs.Opcode.{Label, FuncInfo, Return}
+use Rattle.beam_code.specs.Slots.{Undefined, Term, BelowKind, Below, Assignment, GoesTo, Walk, entry_state, WellSlotted}
+use Rattle.beam_code.specs.Weights.{weight, pool_weight, instruction_weight}
+use Rattle.beam_code.specs.Thin.{is_thin_name, is_count, has_counts, function_in_range, returns_at_once, is_return_body, Accepted}
 use Rattle.erjang_top.specs.Shape.{Shape, InRange}
 use Rattle.erjang_top.specs.ShapeModule.{line_code, shape_code, IsFunction, HasShape}
 use Rattle.erjang_top.specs.ShapeSound.{IsSound}

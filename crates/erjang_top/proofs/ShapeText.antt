@@ -5,7 +5,7 @@ use Rattle.std.specs.List.{flat_map}
 use Rattle.ej_term.specs.declared.asm_term.AsmTerm.{AsmTerm}
 use Rattle.ej_term.specs.declared.asm_term.AsmTerm.TheVariants as term
 use Rattle.ej_term.specs.Print.{with_commas, print}
-use Rattle.ej_term.proofs.PrintLemmas.{print-Int, print-Atom, print-Tuple, print-List, print_cases}
+use Rattle.ej_term.proofs.PrintLemmas.{print_cases}
 use Rattle.beam_code.specs.declared.instr.Instr.{Instr}
 use Rattle.beam_code.specs.declared.module.Function.{Function}
 use Rattle.beam_code.specs.declared.module.Module.{Module}
@@ -13,8 +13,8 @@ use Rattle.beam_code.specs.Keys.{Key}
 use Rattle.beam_code.specs.Forms.{number, list, tagged, opcode, instruction_form, function_forms, export_form, forms, line_of, text}
 use Rattle.beam_code.specs.LabelRules.{opcodes}
 use Rattle.beam_code.specs.Opcode.{Opcode, Label, Line, FuncInfo, Return}
-use Rattle.erjang_top.specs.Shape.{Shape, form_line, export_text, exports_text, label_line, header_text, line_text, body_text, shape_text}
-use Rattle.erjang_top.specs.ShapeModule.{line_code, shape_code, IsFunction, HasShape}
+use Rattle.erjang_top.specs.Shape.{Shape, form_line, export_text, exports_text, label_line, line_text, body_text, shape_text}
+use Rattle.erjang_top.specs.ShapeModule.{line_code, shape_code, HasShape}
 
 -- the forms of a module with one function, over what they are made of
 abbrev code_forms : List Opcode → List AsmTerm

@@ -1,7 +1,7 @@
 -- The words of a shape's text, line by line from the last.
-use Rattle.std.proofs.Common.{◌≡◌, ℕ, zero, suc, ◌<◌, ◌^◌, arith, Bool, true, false, List, [], ◌∷◌, ◌++◌, codes, refl, sym, ap, ◌∙◌, append_assoc}
+use Rattle.std.proofs.Common.{◌≡◌, ℕ, zero, suc, ◌<◌, ◌^◌, arith, Bool, true, false, List, [], ◌∷◌, ◌++◌, codes, refl, ap, ◌∙◌, append_assoc}
 use Rattle.std.specs.Fmt.{decimal}
-use Rattle.erjang_top.specs.Shape.{Shape, InRange, form_line, export_text, exports_text, label_line, header_text, line_text, body_text, shape_text, words_from, last_words, line_words, tail_words, export_words, shape_words}
+use Rattle.erjang_top.specs.Shape.{Shape, InRange, export_text, exports_text, line_text, shape_text, words_from, last_words, line_words, tail_words, export_words, shape_words}
 use Rattle.erjang_top.proofs.WordsLemmas.{IsWord, words-word, decimal-word}
 
 -- the text, each piece with what follows it

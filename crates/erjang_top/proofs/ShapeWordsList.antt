@@ -1,9 +1,7 @@
 -- Places in the words of a shape.
-use Rattle.std.proofs.Common.{◌≡◌, ℕ, zero, suc, ◌+◌, ◌*◌, ◌-◌, ◌/◌, ◌%◌, ◌<◌, ◌≤◌, arith, Bool, true, false, nat_eq, List, [], ◌∷◌, ◌++◌, map, codes, length, take, drop, refl, sym, ap, ◌∙◌, subst, length-append, add-suc, get_or}
+use Rattle.std.proofs.Common.{◌≡◌, ℕ, zero, suc, ◌+◌, ◌*◌, ◌-◌, ◌/◌, ◌%◌, ◌<◌, ◌≤◌, arith, Bool, true, false, nat_eq, List, ◌∷◌, ◌++◌, map, codes, length, take, drop, refl, sym, ap, ◌∙◌, length-append, get_or}
 use Rattle.std.proofs.Math.ListN.{get_or-map, length-map}
 use Rattle.std.proofs.lemmas.List.{drop-map, take-map}
-use Rattle.std.specs.Fmt.{decimal}
-use Rattle.std.proofs.lemmas.Bool.Decides.{nat_tests}
 use Rattle.erjang_top.specs.Shape.{Shape, last_words, line_words, tail_words, export_words, shape_words}
 
 length-exports : (s : Shape) (count : ℕ) → length (export_words s count) ≡ count + count

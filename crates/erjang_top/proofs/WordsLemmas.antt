@@ -1,11 +1,11 @@
 -- The words of a shape's text are the shape's words.
-use Rattle.std.proofs.Common.{◌≡◌, ◌≢◌, ℕ, zero, suc, ◌+◌, ◌%◌, ◌<◌, ◌≤◌, ◌^◌, arith, Bool, true, false, ◌&&◌, List, [], ◌∷◌, ◌++◌, codes, refl, sym, ap, ◌∙◌, subst, append_assoc, append-nil, replicate}
+use Rattle.std.proofs.Common.{◌≡◌, ◌≢◌, ℕ, ◌+◌, ◌%◌, ◌<◌, ◌≤◌, ◌^◌, arith, Bool, true, false, ◌&&◌, List, [], ◌∷◌, ◌++◌, refl, sym, ap, ◌∙◌, append_assoc, append-nil}
 use Rattle.std.specs.Fmt.{decimal}
 use Rattle.std.proofs.lemmas.Fmt.{decimal_by_steps}
 use Rattle.std.proofs.lemmas.Bool.Decides.{nat_tests}
 use Rattle.std.specs.List.{list_all}
 use Rattle.ej_term.specs.Atoms.{is_name_character}
-use Rattle.erjang_top.specs.Shape.{Shape, form_line, export_text, exports_text, label_line, header_text, line_text, body_text, shape_text, close, words_from, last_words, line_words, tail_words, export_words, shape_words}
+use Rattle.erjang_top.specs.Shape.{close, words_from}
 
 -- a run of name characters that is not empty
 pub record IsWord (word : List ℕ) : Type 0 where

@@ -1,19 +1,19 @@
 -- What class code does: one instruction of a method (JVMS SE 7, chapter 6), a method's run to its answer, and one
 -- turn of a process. It knows a byte offset and a table of instructions.
-use Rattle.std.specs.Prelude.{ℕ, zero, suc, ℤ, pos, negsuc, ◌+◌, ◌-◌, ◌*◌, Bool, true, false, nat_eq, nat_le, ◌&&◌, if◌then◌else◌, List, [], ◌∷◌, ◌++◌, length, reverse, replicate, map, codes, slice_get, unwrap_or, Option, None, Some}
+use Rattle.std.specs.Prelude.{ℕ, zero, suc, ℤ, pos, negsuc, ◌+◌, ◌-◌, ◌*◌, Bool, true, false, nat_eq, nat_le, ◌&&◌, if◌then◌else◌, List, [], ◌∷◌, ◌++◌, length, replicate, map, codes, slice_get, unwrap_or, Option, None, Some}
 use Rattle.std.specs.Option.{option_and_then, option_map}
 use Rattle.std.specs.Str.{bytes_eq}
 use Rattle.ej_term.specs.declared.class.Class3.{Class3}
-use Rattle.ej_term.specs.declared.class.Class3.TheVariants.{Error, Exit, Throw}
-use Rattle.ej_term.specs.Term.{Term, Atom, Nil, Cons}
+use Rattle.ej_term.specs.declared.class.Class3.TheVariants.{Error}
+use Rattle.ej_term.specs.Term.{Term, Atom}
 use Rattle.ej_world.specs.World.{Begin, Call, Event, Raise, Answer, Fault}
 use Rattle.ej_world.specs.Run.{Outcome, Runs, Waits, Ended, Turned, Code}
 use Rattle.beam_code.specs.Turn.{list_of, end_reason}
 use Rattle.erjang_top.specs.ClassFile.{Op, IConst, ALoad, Invoke, IReturn, Method, Class, op_bytes}
-use Rattle.erjang_top.specs.ClassProfile.{Callee, callee_at, class_at, utf8_at}
+use Rattle.erjang_top.specs.ClassProfile.{Callee, callee_at, class_at}
 use Rattle.erjang_top.specs.Linking.{text_at, is_runtime, is_own}
 use Rattle.erjang_top.specs.Mangle.{class_name, method_name}
-use Rattle.erjang_top.specs.Typing.{Signature, signature_of}
+use Rattle.erjang_top.specs.Typing.{signature_of}
 
 -- what a local or a place of the operand stack holds
 pub data Value : Type 0 where

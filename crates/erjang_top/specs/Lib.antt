@@ -15,3 +15,4 @@ pub mod Answers
 pub mod Work
 pub mod ClassTurn
 pub mod Runs
+pub mod Worked

@@ -1,7 +1,6 @@
 -- That a class runs as its module, whatever the script.
 use Rattle.std.specs.Prelude.{◌≡◌, ℕ, ◌<◌, ◌≤◌, Bool, false, ◌||◌, List, [], ◌∷◌, length, codes}
 use Rattle.std.specs.Str.{bytes_eq}
-use Rattle.ej_term.specs.Term.{Term}
 use Rattle.ej_world.specs.World.{Choice, Start, Run}
 use Rattle.ej_world.specs.Run.{run}
 use Rattle.beam_code.specs.declared.module.Module.{Module}

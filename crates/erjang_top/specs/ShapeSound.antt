@@ -1,7 +1,7 @@
 -- Which shapes have a module that is accepted.
-use Rattle.std.specs.Prelude.{◌≡◌, ◌≢◌, ℕ, ◌<◌, true}
+use Rattle.std.specs.Prelude.{◌≡◌, ◌≢◌, ◌<◌, true}
 use Rattle.beam_code.specs.Thin.{is_thin_name}
-use Rattle.erjang_top.specs.Shape.{Shape, InRange}
+use Rattle.erjang_top.specs.Shape.{Shape}
 
 -- names of plain atoms, an argument for `return` to answer, and two labels
 pub record IsSound (s : Shape) : Type 0 where

@@ -6,9 +6,11 @@ mod emit;
 mod mangle;
 mod program;
 mod report;
+mod scripts;
 mod source;
 #[cfg(test)]
 mod tests;
 mod words;
 
 pub use program::erjang;
+pub use scripts::worked_runs;

@@ -50,14 +50,23 @@ const GIVE: u16 = 16;
 
 const METHOD_NAME: u16 = 17;
 
-/// Gives the entered value at place 0 as the result, and answers status 0.
+// The local that holds the process.
+const PROCESS: u8 = 0;
+
+// The place of the first entered value.
+const FIRST: u8 = 0;
+
+// The status of a method whose result is to be returned.
+const RETURNED: u8 = 0;
+
+/// Gives the first entered value as the result, and answers that it is to be returned.
 const RETURN_CODE: [Op; 7] = [
-    Op::ALoad(0),
-    Op::ALoad(0),
-    Op::IConst(0),
+    Op::ALoad(PROCESS),
+    Op::ALoad(PROCESS),
+    Op::IConst(FIRST),
     Op::InvokeStatic(TAKE),
     Op::InvokeStatic(GIVE),
-    Op::IConst(0),
+    Op::IConst(RETURNED),
     Op::IReturn,
 ];
 

@@ -1,4 +1,4 @@
-use Rattle.std.proofs.Common.{◌≡◌, ℕ, List, true, Some, ap, map, sym, subst, ◌∙◌}
+use Rattle.std.proofs.Common.{◌≡◌, true, ap, map, sym, subst, ◌∙◌}
 use Rattle.std.specs.Prelude.{string_bytes, IfSome}
 use Rattle.erjang_top.specs.Shape.{Shape, InRange, shape_text}
 use Rattle.erjang_top.specs.ShapeSound.{IsSound}

@@ -1,4 +1,4 @@
-use Rattle.std.proofs.Common.{◌≡◌, ◌<◌, ◌^◌, arith, ◌∙◌}
+use Rattle.std.proofs.Common.{◌<◌, ◌^◌, arith, ◌∙◌}
 use Rattle.std.proofs.lemmas.Fmt.{parse-decimal}
 use Rattle.erjang_top.proofs.source.parts.four_bytes.Goals as goal
 

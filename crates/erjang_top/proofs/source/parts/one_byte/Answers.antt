@@ -1,4 +1,4 @@
-use Rattle.std.proofs.Common.{◌≡◌, ◌<◌, ◌^◌, arith, ◌∙◌}
+use Rattle.std.proofs.Common.{◌<◌, ◌^◌, arith, ◌∙◌}
 use Rattle.std.proofs.lemmas.Fmt.{parse-decimal}
 use Rattle.erjang_top.proofs.source.parts.one_byte.Goals as goal
 

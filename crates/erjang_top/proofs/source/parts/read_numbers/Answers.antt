@@ -1,4 +1,4 @@
-use Rattle.std.proofs.Common.{◌≡◌, ◌<◌, ◌≤◌, ◌^◌, arith, length, refl}
+use Rattle.std.proofs.Common.{◌<◌, arith, length}
 use Rattle.std.specs.Prelude.{string_bytes}
 use Rattle.erjang_top.specs.Shape.{tail_words}
 use Rattle.erjang_top.proofs.ShapeWordsList.{image-at}

@@ -1,7 +1,7 @@
-use Rattle.std.proofs.Common.{◌≡◌, ◌<◌, ◌≤◌, ◌+◌, ◌*◌, ◌-◌, ◌/◌, Some, arith, length, map, take, refl, ap, sym, ◌∙◌}
+use Rattle.std.proofs.Common.{◌≡◌, ◌<◌, ◌+◌, ◌*◌, ◌-◌, ◌/◌, Some, arith, length, map, refl, ap, sym, ◌∙◌}
 use Rattle.std.specs.Prelude.{string_bytes}
 use Rattle.std.proofs.Math.ListN.{length-map}
-use Rattle.erjang_top.specs.Shape.{Shape, tail_words, export_words}
+use Rattle.erjang_top.specs.Shape.{tail_words}
 use Rattle.erjang_top.proofs.ShapeWordsList.{image-at, tail-is, head-is, exports-count, line-parity}
 use Rattle.erjang_top.proofs.source.parts.take_apart.Goals as goal
 

@@ -1,4 +1,4 @@
-use Rattle.std.proofs.Common.{◌≡◌, ℕ, List, [], ◌∷◌, ◌++◌, sym, ap, ◌∙◌, replicate}
+use Rattle.std.proofs.Common.{◌≡◌, [], ◌∷◌, ◌++◌, sym, ap, ◌∙◌, replicate}
 use Rattle.erjang_top.specs.Shape.{Shape}
 use Rattle.erjang_top.proofs.ModuleLemmas.{one-distinct, one-exported}
 use Rattle.erjang_top.proofs.source.parts.Parts.module.Goals as goal

@@ -1,6 +1,5 @@
-use Rattle.std.proofs.Common.{◌≡◌, ℕ, List, [], ◌∷◌, ◌++◌, codes, ap, ◌∙◌, append_assoc}
+use Rattle.std.proofs.Common.{◌≡◌, ℕ, List, [], ◌∷◌, ◌++◌, codes, ◌∙◌, append_assoc}
 use Rattle.std.specs.Fmt.{decimal}
-use Rattle.erjang_top.specs.Shape.{info_line}
 use Rattle.erjang_top.proofs.source.parts.text.write_func_info.Goals as goal
 
 regroup : (t a o b n c d e f g : List ℕ) → t ++ (a ++ (o ++ (b ++ (n ++ (c ++ (d ++ (e ++ (f ++ g)))))))) ≡ t ++ ((a ++ o ++ b ++ n ++ c ++ d ++ e) ++ f ++ g)

@@ -1,0 +1,25 @@
+-- The worked scripts, computed.
+use Rattle.std.proofs.Common.{refl}
+use Rattle.std.specs.Fmt.{digits}
+use lib.Utf8.{encode}
+use Rattle.erjang_top.specs.Worked.{Returns, NotLoaded, OtherArity, NotExported, NothingToDo}
+
+pub returns : Returns
+unfolding digits encode
+returns = record { beam_gives = refl; class_gives = refl }
+
+pub not_loaded : NotLoaded
+unfolding digits encode
+not_loaded = record { beam_gives = refl; class_gives = refl }
+
+pub other_arity : OtherArity
+unfolding digits encode
+other_arity = record { beam_gives = refl; class_gives = refl }
+
+pub not_exported : NotExported
+unfolding digits encode
+not_exported = record { beam_gives = refl; class_gives = refl }
+
+pub nothing_to_do : NothingToDo
+unfolding digits encode
+nothing_to_do = record { beam_gives = refl; class_gives = refl }
