@@ -1,0 +1,9 @@
+{module,m}.
+{exports,[{f,1}]}.
+{attributes,[]}.
+{labels,3}.
+{function,f,1,2}.
+{label,1}.
+{func_info,{atom,m},{atom,f},1}.
+{label,2}.
+return.
