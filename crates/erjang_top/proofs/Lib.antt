@@ -22,3 +22,4 @@ pub mod BeamSide
 pub mod ClassSide
 pub mod SameRuns
 mod WorkedLemmas
+mod OneModule

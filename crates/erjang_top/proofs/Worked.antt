@@ -11,6 +11,7 @@ use Rattle.erjang_top.specs.declared.compile.Fault.TheVariants as fault
 use Rattle.erjang_top.specs.declared.compile.Refusal.TheVariants as refusal
 use Rattle.erjang_top.specs.Answers.{NotBuilt, First, Held, Compiled, PutFailed, Told, SameCounts, longest_file}
 use Rattle.erjang_top.specs.Words.{Compile}
+use Rattle.erjang_top.proofs.OneModule.{one_module}
 use Rattle.erjang_top.specs.Work.{Builds, IsClassOf, Works}
 
 -- that the shelf holds these bytes under the source's name, and not too many
@@ -47,6 +48,7 @@ work_done w old mid new source name class r b p = (
         short = s.1;
         module' = b.module';
         thin = b.thin;
+        only = λ other thin. one_module _ other b.module' thin b.thin;
         class = class;
         emitted = b.emitted;
         stands = ap (λ (n : List ℕ). files.insert held n class) b.named;

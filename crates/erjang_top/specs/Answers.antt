@@ -87,6 +87,8 @@ pub record Compiled (w : Compile) (held : Files) (new : Files) : Type 0 where
   pub short : length bytes ≤ longest_file
   pub module' : Module
   pub thin : Thin bytes module'
+  -- and no other module has them as its text
+  pub only : (other : Module) → Thin bytes other → other ≡ module'
   pub class : List ℕ
   pub emitted : Emitted module' class
   pub stands : new ≡ files.insert held (class_file w.outdir module'.name) class
