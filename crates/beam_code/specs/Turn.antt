@@ -1,7 +1,7 @@
 -- What BEAM code does: one instruction, one turn, and how a process begins (OTP 24, `genop.tab`; Erlang Reference
 -- Manual, "Errors and Error Handling" and "Processes"). It knows the instructions as one flat list, in which labels are
 -- searched.
-use Rattle.std.specs.Prelude.{ℕ, zero, suc, ◌+◌, ◌-◌, ◌*◌, Bool, nat_eq, if◌then◌else◌, List, [], ◌∷◌, length, map, sum, codes, slice_get, unwrap_or, Option, None, Some}
+use Rattle.std.specs.Prelude.{ℕ, zero, suc, ◌+◌, ◌-◌, ◌*◌, Bool, false, nat_eq, if◌then◌else◌, List, [], ◌∷◌, length, map, sum, codes, slice_get, unwrap_or, Option, None, Some}
 use Rattle.std.specs.Option.{option_and_then, option_map}
 use Rattle.std.specs.List.{flat_map}
 use Rattle.std.specs.Str.{bytes_eq}
@@ -22,7 +22,7 @@ instructions m = flat_map opcodes m.functions
 
 abbrev pub is_label : ℕ → Opcode → Bool
 is_label n (Label k) = nat_eq n k
-is_label n _ = nat_eq 0 1
+is_label n _ = false
 
 -- the place of a label, counted from this number on
 abbrev pub place_of : ℕ → ℕ → List Opcode → Option ℕ

@@ -1,5 +1,5 @@
 -- Writing a text in pieces.
-use Rattle.std.proofs.Common.{◌≡◌, ℕ, ◌+◌, List, ◌++◌, length, take, drop, Option, None, Some, Result, Ok, Err, IsErrAnd, refl, sym, ap, ◌∙◌, append_assoc, length-append, arith}
+use Rattle.std.proofs.Common.{◌≡◌, ℕ, ◌+◌, ◌<◌, ◌≤◌, List, ◌++◌, length, take, drop, Option, None, Some, Result, Ok, Err, IsErrAnd, refl, sym, ap, ◌∙◌, append_assoc, length-append, arith}
 use Rattle.std.specs.Option.{option_map}
 use Rattle.std.proofs.lemmas.List.{take-append-drop, take-append-le}
 use Rattle.std.proofs.Math.Seq.{take-append_seam, take-append-add}
@@ -22,12 +22,13 @@ took_both s t u a b p q = (joined s.took t.took u.took a b p.0 q.0, q.1 ∙ p.1)
 
 -- it failed in the first of two texts
 pub took_first_front : (s t : SinkState) (a b : List ℕ) → TookFront s a t → TookFront s (a ++ b) t
-took_first_front s t a b p = (
-  p.0,
-  omega (arith, length-append a b, p.1),
-  p.2 ∙ ap (λ (front : List ℕ). option_map (λ (taken : List ℕ). taken ++ front) s.took) (sym (take-append-le p.0 a b p.1)),
-  p.3,
-)
+took_first_front s t a b p =
+    let within : p.0 ≤ length a = omega (arith, p.1) in (
+      p.0,
+      omega (arith, length-append a b, p.1),
+      p.2 ∙ ap (λ (front : List ℕ). option_map (λ (taken : List ℕ). taken ++ front) s.took) (sym (take-append-le p.0 a b within)),
+      p.3,
+    )
 
 -- it took the first of two texts and failed in the second
 pub took_second_front : (s t u : SinkState) (a b : List ℕ) → TookAll s a t → TookFront t b u → TookFront s (a ++ b) u
@@ -52,8 +53,8 @@ pub rest_is : (front rest whole : List ℕ) (count : ℕ) → front ++ rest ≡ 
 rest_is front rest whole count e = append_assoc front (take count rest) (drop count rest) ∙ ap (λ (l : List ℕ). front ++ l) (take-append-drop count rest) ∙ e
 
 -- a write of a rest failed
-pub took_till : (s t u : SinkState) (front rest whole : List ℕ) → front ++ rest ≡ whole → TookAll s front t → Refuses t u → TookFront s whole u
-took_till s t u front rest whole e p q =
+pub took_till : (s t u : SinkState) (front rest whole : List ℕ) → 0 < length rest → front ++ rest ≡ whole → TookAll s front t → Refuses t u → TookFront s whole u
+took_till s t u front rest whole some e p q =
     let rises = q.faults in
     let fit : length front + length rest ≡ length whole = sym (length-append front rest) ∙ ap length e in (
       length front,

@@ -53,9 +53,9 @@ usage_line = codes "usage: erjang compile OUTDIR FILE... | beam SCRIPT FILE... |
 abbrev pub TookAll : SinkState → List ℕ → SinkState → Type 0
 TookAll old text new = (new.took ≡ option_map (λ taken. taken ++ text) old.took) × Same old.faults new.faults
 
--- a sink took a front of the text, and then failed
+-- a sink took less than the whole text, from its front, and then failed
 abbrev pub TookFront : SinkState → List ℕ → SinkState → Type 0
-TookFront old text new = (n : ℕ) × (n ≤ length text) × (new.took ≡ option_map (λ taken. taken ++ take n text) old.took) × Rises old.faults new.faults
+TookFront old text new = (n : ℕ) × (n < length text) × (new.took ≡ option_map (λ taken. taken ++ take n text) old.took) × Rises old.faults new.faults
 
 -- the status with the whole text, or status 4 where the sink failed
 abbrev pub Says : ℕ → List ℕ → ℕ → SinkState → SinkState → Type 0

@@ -1,6 +1,10 @@
 use Rattle.erjang_top.proofs.Said.{took_more, took_till, rest_is}
-use Rattle.std.proofs.Common.{◌++◌, take}
+use Rattle.std.proofs.Common.{◌≡◌, ℕ, ◌<◌, ◌++◌, ◌∙◌, false, nat_eq, arith, length, sym, take}
+use Rattle.std.proofs.lemmas.Bool.Decides.{nat_tests}
 use Rattle.erjang_top.proofs.report.write_all.Goals as goal
+
+not_empty : (n : ℕ) → nat_eq n 0 ≡ false → 0 < n
+not_empty n e = grind (arith, nat_tests)
 
 pub loop-rest-preserved : goal.loop-rest-preserved
 loop-rest-preserved g c =
@@ -13,4 +17,5 @@ loop-rest-preserved g c =
 pub returns-in-Err : goal.returns-in-Err
 returns-in-Err g c =
     let i = c.loop-rest.invariant in
-    took_till _ _ _ i.0 c.loop-rest.rest.now c.args.piece.now i.1 i.2 c.in-Err.ensures
+    let some = not_empty (length c.loop-rest.rest.now) (sym c.is_empty.ensures ∙ c.loop-rest-test.true) in
+    took_till _ _ _ i.0 c.loop-rest.rest.now c.args.piece.now some i.1 i.2 c.in-Err.ensures
