@@ -4,6 +4,7 @@ ghost use Rattle.std.specs.Prelude.{◌≡◌, ◌↔◌, IsTrue, IfOk, string_b
 ghost use Rattle.std.specs.Str.{chars};
 
 use std::alloc::{AllocError, Global};
+use std::hash::{Hash, Hasher};
 use std::marker::Model;
 
 /// A text that owns its characters.
@@ -64,17 +65,47 @@ impl PartialEq for Text {
     }
 }
 
+impl Eq for Text {
+    ghost use Rattle.std.specs.Cmp.Lexicographic.{nat_list_eq_equiv};
+
+    ghost laws = { nat_list_eq_equiv };
+}
+
+impl Hash for Text {
+    ghost use Rattle.std.specs.Prelude.{encode_utf8_all};
+    ghost use Rattle.std.specs.Hash as fed;
+    ghost use Rattle.std.specs.Cmp.Rules.{hashing};
+    ghost use Rattle.std.proofs.Common.{rules};
+
+    ghost hash_input = { λ text. fed.str (encode_utf8_all text) };
+
+    ghost respects_eq = { Prim.search (hashing, rules) };
+
+    fn hash<H: Hasher>(&self, state: &mut H) {
+        self.as_str().hash(state);
+    }
+}
+
 #[cfg(test)]
 mod tests {
     use super::*;
+    use std::hash::DefaultHasher;
     use std::test::Fail;
+
+    fn hash_of(text: &Text) -> u64 {
+        let mut state = DefaultHasher::new();
+        text.hash(&mut state);
+        state.finish()
+    }
 
     #[test]
     fn keeps_its_characters(rt: HostRuntime) -> Result<(), Fail> {
         for s in ["", "m", "a b", "\u{e9}\u{10ffff}"] {
             let text = Text::make(rt.alloc(), s)?;
             assert_eq!(rt; text.as_str(), s);
-            assert!(rt; text.clone()? == text, "{s}");
+            let copy = text.clone()?;
+            assert!(rt; copy == text, "{s}");
+            assert_eq!(rt; hash_of(&copy), hash_of(&text));
         }
         let one = Text::make(rt.alloc(), "ab")?;
         let other = Text::make(rt.alloc(), "ba")?;
