@@ -8,22 +8,32 @@ use Rattle.beam_code.specs.declared.module.Function.{Function}
 use Rattle.beam_code.specs.declared.module.Module.{Module}
 use Rattle.beam_code.specs.declared.operand.Operand.{Operand}
 use Rattle.beam_code.specs.declared.operand.Operand.TheVariants as operand
+use Rattle.beam_code.specs.declared.operand.Reg.TheVariants as register
+use Rattle.beam_code.specs.declared.operand.Src.{Src}
 use Rattle.beam_code.specs.declared.operand.Src.TheVariants as source
 use Rattle.beam_code.specs.Forms.{opcode}
 use Rattle.beam_code.specs.Keys.{Key, are_distinct, are_exports}
-use Rattle.beam_code.specs.Opcode.{Opcode, Label, Line, FuncInfo, Return, Unknown, label_of, func_info_of, without_operands, opcode_of, is_known}
+use Rattle.beam_code.specs.Opcode.{Integer, Atom, Nil, Source, X, Of, Opcode, Label, Line, FuncInfo, Move, Return, Unknown, label_of, func_info_of, source_of, move_to, move_of, without_operands, opcode_of, is_known}
 
 -- the row and the operands of an instruction that is known
 abbrev row_of : Opcode → ℕ
 row_of (Label n) = 1
 row_of Line = 2
 row_of (FuncInfo owner name arity) = 4
+row_of (Move from to) = 5
 row_of Return = 22
 row_of Unknown = 0
+
+abbrev src_of : Source → Src
+src_of (X n) = source.Reg (register.X n)
+src_of (Of (Integer number)) = source.Int number
+src_of (Of (Atom name)) = source.Atom name
+src_of (Of Nil) = source.Nil
 
 abbrev operands_of : Opcode → List Operand
 operands_of (Label n) = operand.Count n ∷ []
 operands_of (FuncInfo owner name arity) = operand.Src (source.Atom owner) ∷ operand.Src (source.Atom name) ∷ operand.Count arity ∷ []
+operands_of (Move from to) = operand.Src (src_of from) ∷ operand.Reg (register.X to) ∷ []
 operands_of _ = []
 
 record IsCanonical (row : ℕ) (operands : List Operand) (o : Opcode) : Type 0 where
@@ -41,6 +51,17 @@ info-canonical : (row : ℕ) (operands : List Operand) → row ≡ 4 → is_know
 info-canonical row (operand.Src (source.Atom owner) ∷ operand.Src (source.Atom name) ∷ operand.Count n ∷ []) e known = record { row_is = e; operands_are = refl }
 info-canonical row _ e known = absurd (cc)
 
+move-by-source : (row : ℕ) (from : Src) (to : ℕ) → row ≡ 5 → is_known (move_to (source_of from) to) ≡ true → IsCanonical row (operand.Src from ∷ operand.Reg (register.X to) ∷ []) (move_to (source_of from) to)
+move-by-source row (source.Reg (register.X n)) to e known = record { row_is = e; operands_are = refl }
+move-by-source row (source.Int number) to e known = record { row_is = e; operands_are = refl }
+move-by-source row (source.Atom name) to e known = record { row_is = e; operands_are = refl }
+move-by-source row source.Nil to e known = record { row_is = e; operands_are = refl }
+move-by-source row _ to e known = absurd (cc)
+
+move-canonical : (row : ℕ) (operands : List Operand) → row ≡ 5 → is_known (move_of operands) ≡ true → IsCanonical row operands (move_of operands)
+move-canonical row (operand.Src from ∷ operand.Reg (register.X to) ∷ []) e known = move-by-source row from to e known
+move-canonical row _ e known = absurd (cc)
+
 line-canonical : (row : ℕ) (operands : List Operand) → row ≡ 2 → is_known (without_operands Line operands) ≡ true → IsCanonical row operands (without_operands Line operands)
 line-canonical row [] e known = record { row_is = e; operands_are = refl }
 line-canonical row (o ∷ os) e known = absurd (cc)
@@ -50,24 +71,26 @@ return-canonical row [] e known = record { row_is = e; operands_are = refl }
 return-canonical row (o ∷ os) e known = absurd (cc)
 
 -- by the tests of the row's number
-abbrev opcode_by : Bool → Bool → Bool → Bool → List Operand → Opcode
-opcode_by a b c d operands =
+abbrev opcode_by : Bool → Bool → Bool → Bool → Bool → List Operand → Opcode
+opcode_by a b c d e operands =
     if a then label_of operands
     else if b then without_operands Line operands
     else if c then func_info_of operands
-    else if d then without_operands Return operands
+    else if d then move_of operands
+    else if e then without_operands Return operands
     else Unknown
 
-canonical-by : (row : ℕ) (operands : List Operand) (a b c d : Bool) → nat_eq row 1 ≡ a → nat_eq row 2 ≡ b → nat_eq row 4 ≡ c → nat_eq row 22 ≡ d
-    → is_known (opcode_by a b c d operands) ≡ true → IsCanonical row operands (opcode_by a b c d operands)
-canonical-by row operands true b c d ea eb ec ed known = label-canonical row operands (same-number row 1 ea) known
-canonical-by row operands false true c d ea eb ec ed known = line-canonical row operands (same-number row 2 eb) known
-canonical-by row operands false false true d ea eb ec ed known = info-canonical row operands (same-number row 4 ec) known
-canonical-by row operands false false false true ea eb ec ed known = return-canonical row operands (same-number row 22 ed) known
-canonical-by row operands false false false false ea eb ec ed known = absurd (cc)
+canonical-by : (row : ℕ) (operands : List Operand) (a b c d e : Bool) → nat_eq row 1 ≡ a → nat_eq row 2 ≡ b → nat_eq row 4 ≡ c → nat_eq row 5 ≡ d → nat_eq row 22 ≡ e
+    → is_known (opcode_by a b c d e operands) ≡ true → IsCanonical row operands (opcode_by a b c d e operands)
+canonical-by row operands true b c d e ea eb ec ed ee known = label-canonical row operands (same-number row 1 ea) known
+canonical-by row operands false true c d e ea eb ec ed ee known = line-canonical row operands (same-number row 2 eb) known
+canonical-by row operands false false true d e ea eb ec ed ee known = info-canonical row operands (same-number row 4 ec) known
+canonical-by row operands false false false true e ea eb ec ed ee known = move-canonical row operands (same-number row 5 ed) known
+canonical-by row operands false false false false true ea eb ec ed ee known = return-canonical row operands (same-number row 22 ee) known
+canonical-by row operands false false false false false ea eb ec ed ee known = absurd (cc)
 
 canonical : (i : Instr) → IsCanonical i.row i.operands (opcode i)
-canonical i = canonical-by i.row i.operands (nat_eq i.row 1) (nat_eq i.row 2) (nat_eq i.row 4) (nat_eq i.row 22) refl refl refl refl i.fits_row
+canonical i = canonical-by i.row i.operands (nat_eq i.row 1) (nat_eq i.row 2) (nat_eq i.row 4) (nat_eq i.row 5) (nat_eq i.row 22) refl refl refl refl refl i.fits_row
 
 -- an instruction's proof that it fits its row is the only one
 same-fields : (row row' : ℕ) (os os' : List Operand) → row ≡ row' → os ≡ os' → (d : is_known (opcode_of row os) ≡ true) (d' : is_known (opcode_of row' os') ≡ true)

@@ -1,9 +1,10 @@
 -- Which slots hold what at each place: slot states, and good assignments of states to labels.
 use Rattle.std.specs.Prelude.{◌≡◌, ℕ, zero, suc, ◌+◌, true, nat_eq, nat_lt, if◌then◌else◌, List, [], ◌∷◌, Option, None, Some, MatchOption, unwrap_or}
 use Rattle.std.specs.List.{list_any, list_all}
+use Rattle.std.specs.Option.{option_map}
 use Rattle.beam_code.specs.declared.module.Function.{Function}
 use Rattle.beam_code.specs.LabelRules.{opcodes}
-use Rattle.beam_code.specs.Opcode.{Opcode, Label, Line, FuncInfo, Return, Unknown}
+use Rattle.beam_code.specs.Opcode.{Source, X, Of, Opcode, Label, Line, FuncInfo, Move, Return, Unknown}
 
 -- what a slot holds: nothing that is known, a term, a term or null, the tag of a `try` or `catch` with the
 -- labels of its handlers, a trace, or the marker of a receive
@@ -75,11 +76,28 @@ GoToEach at s (label ∷ labels) = GoesTo at s label × GoToEach at s labels
 abbrev pub MayRaise : Assignment → State → Type 0
 MayRaise at s = GoToEach at (caught s) (handlers s)
 
+-- what a source holds
+abbrev pub kind_of : State → Source → Kind
+kind_of s (X n) = s.xs n
+kind_of s (Of value) = Term
+
+-- terms, traces and markers alone are moved
+abbrev pub IsMoved : Kind → Type 0
+IsMoved Term = Unit {0}
+IsMoved Trace = Unit {0}
+IsMoved Marker = Unit {0}
+IsMoved _ = ⊥
+
+-- the state with that kind in an x register
+abbrev pub with_x : ℕ → Kind → State → State
+with_x to kind s = record { frame = s.frame; xs = λ n. if nat_eq n to then kind else s.xs n; ys = s.ys }
+
 -- what an instruction's row asks of the state before it
 abbrev pub Holds : Assignment → State → Opcode → Type 0
 Holds at s (Label n) = GoesTo at s n
 Holds at s Line = Unit {0}
 Holds at s (FuncInfo owner name arity) = MayRaise at s
+Holds at s (Move from to) = IsMoved (kind_of s from)
 Holds at s Return = (s.frame ≡ None) × (s.xs 0 ≡ Term)
 Holds at s Unknown = ⊥
 
@@ -87,6 +105,7 @@ Holds at s Unknown = ⊥
 abbrev pub after : Assignment → Option State → Opcode → Option State
 after at before (Label n) = at n
 after at before (FuncInfo owner name arity) = None
+after at before (Move from to) = option_map (λ s. with_x to (kind_of s from) s) before
 after at before Return = None
 after at before _ = before
 

@@ -7,14 +7,15 @@ use Rattle.std.specs.List.{flat_map}
 use Rattle.std.specs.Str.{bytes_eq}
 use Rattle.ej_term.specs.declared.class.Class3.{Class3}
 use Rattle.ej_term.specs.declared.class.Class3.TheVariants.{Error, Exit, Throw}
-use Rattle.ej_term.specs.Term.{Term, Atom, Nil, Cons, tuple}
+use Rattle.ej_term.specs.Term.{Term, Int, Atom, Nil, Cons, tuple}
 use Rattle.ej_world.specs.World.{Begin, Call, Raise, Answer}
 use Rattle.ej_world.specs.Run.{Outcome, Runs, Waits, Ended, Turned, Code}
 use Rattle.beam_code.specs.declared.module.Function.{Function}
 use Rattle.beam_code.specs.declared.module.Module.{Module}
 use Rattle.beam_code.specs.Keys.{is_among, key_of, same_key}
 use Rattle.beam_code.specs.LabelRules.{opcodes}
-use Rattle.beam_code.specs.Opcode.{Opcode, Label, Line, FuncInfo, Return, Unknown}
+use Rattle.beam_code.specs.Opcode.{Value, Integer, Source, X, Of, Opcode, Label, Line, FuncInfo, Move, Return, Unknown}
+use Rattle.beam_code.specs.Opcode as code
 
 -- the instructions of a module, one function after the other
 abbrev pub instructions : Module → List Opcode
@@ -75,10 +76,26 @@ abbrev pub answer : List Caller → Option Term → Next
 answer callers None = Stuck
 answer callers (Some value) = return_to callers value
 
+-- the term that an instruction has in it
+abbrev pub term_of : Value → Term
+term_of (Integer number) = Int number
+term_of (code.Atom name) = Atom name
+term_of code.Nil = Nil
+
+-- what a source holds
+abbrev pub read : Machine → Source → Option Term
+read m (X n) = m.xs n
+read m (Of value) = Some (term_of value)
+
+abbrev pub write : Machine → ℕ → Option Term → Next
+write m to None = Stuck
+write m to (Some value) = Goes (record (next_place m) { xs = λ n. if nat_eq n to then Some value else m.xs n })
+
 abbrev pub act : Option Opcode → Machine → Next
 act (Some (Label n)) m = Goes (next_place m)
 act (Some Line) m = Goes (next_place m)
 act (Some (FuncInfo owner name arity)) m = Raises Error (Atom (codes "function_clause"))
+act (Some (Move from to)) m = write m to (read m from)
 act (Some Return) m = answer m.callers (m.xs 0)
 act (Some Unknown) m = Stuck
 act None m = Stuck

@@ -3,7 +3,7 @@
 ghost use Rattle.std.specs.Prelude.{◌≡◌, true};
 ghost use Rattle.beam_code.specs.Opcode.{is_known, opcode_of};
 
-use crate::{Operand, Src, rows};
+use crate::{Operand, Reg, Src, rows};
 use ej_term::Text;
 use sqlite_items::Items;
 use std::alloc::{AllocError, Global};
@@ -17,8 +17,8 @@ pub struct Instr {
 }
 
 impl Instr {
-    ghost use Rattle.std.specs.Prelude.{◌≡◌, IfOk};
-    ghost use Rattle.beam_code.specs.Opcode.{Label, Line, FuncInfo, Return};
+    ghost use Rattle.std.specs.Prelude.{◌≡◌, IfOk, IsSome, Some};
+    ghost use Rattle.beam_code.specs.Opcode.{Source, Label, Line, FuncInfo, Move, Return, source_of};
     ghost use Rattle.beam_code.specs.Forms.{opcode};
 
     /// `{label,n}`: defines the label `n`. The error says that memory was wanting.
@@ -63,6 +63,21 @@ impl Instr {
         })
     }
 
+    /// `{move,S,{x,N}}`: the register gets what the source holds, an x register, an integer, an atom or nil. The
+    /// error says that memory was wanting.
+    pub fn moves(alloc: Global, from: Src, to: u16) -> Result<Instr, AllocError>
+        requires { IsSome (source_of from) }
+        ensures { (source : Source) → source_of from ≡ Some source → IfOk result (λ i. opcode i ≡ Move source to) }
+    {
+        let mut operands = Items::new(alloc);
+        operands.push(Operand::Src(from))?;
+        operands.push(Operand::Reg(Reg::X(to)))?;
+        Ok(Instr {
+            row: rows::MOVE,
+            operands,
+        })
+    }
+
     /// `return`: answers x0 to the caller.
     pub fn returns(alloc: Global) -> Instr
         ensures { opcode result ≡ Return }
@@ -85,10 +100,15 @@ mod tests {
         let alloc = rt.alloc();
         let owner = Text::make(alloc, "m")?;
         let name = Text::make(alloc, "f")?;
+        let atom = Text::make(alloc, "a")?;
         let made = [
             (Instr::label(alloc, 7)?, 1, 1),
             (Instr::line(alloc), 2, 0),
             (Instr::func_info(alloc, owner, name, 3)?, 4, 3),
+            (Instr::moves(alloc, Src::Reg(Reg::X(7)), 0)?, 5, 2),
+            (Instr::moves(alloc, Src::Int(-1), 1023)?, 5, 2),
+            (Instr::moves(alloc, Src::Atom(atom), 1)?, 5, 2),
+            (Instr::moves(alloc, Src::Nil, 2)?, 5, 2),
             (Instr::returns(alloc), 22, 0),
         ];
         for (instr, row, operands) in &made {

@@ -6,5 +6,7 @@ pub const LABEL: u16 = 1;
 pub const LINE: u16 = 2;
 /// `{func_info,{atom,M},{atom,F},n}`
 pub const FUNC_INFO: u16 = 4;
+/// `{move,S,D}`
+pub const MOVE: u16 = 5;
 /// `return`
 pub const RETURN: u16 = 22;

@@ -1,11 +1,12 @@
 -- Bytes have at most one class: each part of a class file tells its value and where it ends.
 use Rattle.std.proofs.lemmas.Nat.{and_le_r}
-use Rattle.std.proofs.Common.{bit_and, ◌≡◌, ℕ, zero, suc, codes, inl, inr, is_some, length-append, ◌<◌, ◌^◌, true, List, [], ◌∷◌, ◌++◌, length, slice_get, Option, None, Some, refl, sym, ap, ◌∙◌, append_assoc, arith}
+use Rattle.std.proofs.Common.{bit_and, ◌≡◌, ℕ, zero, suc, codes, inl, inr, is_some, length-append, ◌<◌, ◌^◌, Bool, true, false, not, subst, List, [], ◌∷◌, ◌++◌, length, slice_get, Option, None, Some, refl, sym, ap, ◌∙◌, append_assoc, arith}
 use Rattle.std.specs.Prelude.{IsSome, MatchOption}
 use Rattle.std.specs.List.{flat_map, AllByRecursion}
 use Rattle.std.specs.Option.{option_and_then}
-use Rattle.erjang_top.specs.ClassFile.{Constant, Gap, Utf8, ClassEntry, Methodref, NameAndType, Short, Op, IConst, ALoad, Invoke, IReturn, Method, Class, u2, u4, counted, constant_bytes, code_bytes, maps_bytes, code_content, method_bytes, class_bytes}
-use Rattle.erjang_top.specs.ClassProfile.{utf8_in, class_in, name_and_type_in, callee_in, IsEntry, IsPool, IsOp, has_offsets, Reads, IsMethod, InProfile, ClassOf}
+use Rattle.std.proofs.lemmas.Bool.{and_parts, not-true}
+use Rattle.erjang_top.specs.ClassFile.{Constant, Gap, Utf8, Long, ClassEntry, StringEntry, Methodref, NameAndType, Op, IConst, SIPush, LdcW, Ldc2W, ALoad, AStore, Invoke, IReturn, Method, Class, u2, u4, counted, constant_bytes, code_bytes, maps_bytes, code_content, method_bytes, class_bytes}
+use Rattle.erjang_top.specs.ClassProfile.{is_gap, is_long, has_gaps, string_in, long_in, utf8_in, class_in, name_and_type_in, callee_in, IsEntry, IsPool, IsOp, has_offsets, Reads, IsMethod, InProfile, ClassOf}
 use Rattle.erjang_top.proofs.EntryLaw.{ConstantFits, constant-tells}
 use Rattle.erjang_top.proofs.OpLaw.{OpFits, same_code}
 use Rattle.erjang_top.proofs.Spelling.{SameThen, Tells, u2-tells, u4-tells, counted-tells, flat_map-tells}
@@ -20,16 +21,22 @@ found_below find (c ∷ pool) (suc index) h = let below = found_below find pool 
 read_below : {B : Type 0} (find : Constant → Option B) (pool : List Constant) (index : ℕ) (value : B) → option_and_then find (slice_get pool index) ≡ Some value → index < length pool
 read_below find pool index value h = found_below find pool index (ap is_some h)
 
-entry_fits : (pool : List Constant) → length pool < 2 ^ 16 → (c : Constant) → IsEntry pool c → ConstantFits c
-entry_fits pool l Gap h = h
-entry_fits pool l (Utf8 bytes) h = h.0
-entry_fits pool l (ClassEntry name) h = omega (arith, found_below utf8_in pool name h)
-entry_fits pool l (Methodref class n) h = (omega (arith, found_below (class_in pool) pool class h.0), omega (arith, found_below (name_and_type_in pool) pool n h.1))
-entry_fits pool l (NameAndType name descriptor) h = (omega (arith, found_below utf8_in pool name h.0), omega (arith, found_below utf8_in pool descriptor h.1))
+entry_fits : (pool : List Constant) → length pool < 2 ^ 16 → (c : Constant) → is_gap c ≡ false → IsEntry pool c → ConstantFits c
+entry_fits pool l Gap no_gap h = absurd cc
+entry_fits pool l (Utf8 bytes) no_gap h = h.0
+entry_fits pool l (Long value) no_gap h = h
+entry_fits pool l (StringEntry text) no_gap h = omega (arith, found_below utf8_in pool text h)
+entry_fits pool l (ClassEntry name) no_gap h = omega (arith, found_below utf8_in pool name h)
+entry_fits pool l (Methodref class n) no_gap h = (omega (arith, found_below (class_in pool) pool class h.0), omega (arith, found_below (name_and_type_in pool) pool n h.1))
+entry_fits pool l (NameAndType name descriptor) no_gap h = (omega (arith, found_below utf8_in pool name h.0), omega (arith, found_below utf8_in pool descriptor h.1))
 
 op_fits : (pool : List Constant) → length pool < 2 ^ 16 → (op : Op) → IsOp pool op → OpFits op
 op_fits pool l (IConst value) h = h
-op_fits pool l (ALoad Short local) h = h
+op_fits pool l (SIPush value) h = h
+op_fits pool l (LdcW index) h = omega (arith, found_below (string_in pool) pool index h)
+op_fits pool l (Ldc2W index) h = omega (arith, found_below long_in pool index h)
+op_fits pool l (ALoad width local) h = h
+op_fits pool l (AStore width local) h = h
 op_fits pool l (Invoke index) h = omega (arith, found_below (callee_in pool) pool index h)
 op_fits pool l IReturn h = h
 
@@ -37,17 +44,44 @@ each : {X : Type 0} (P Q : X → Type 0) → ((x : X) → P x → Q x) → (xs :
 each P Q f [] h = h
 each P Q f (x ∷ xs) h = (f x h.0, each P Q f xs h.1)
 
-pool_fits : (pool : List Constant) → IsPool pool → length pool < 2 ^ 16
-pool_fits (Gap ∷ entries) h = h.0
-pool_fits pool h = absurd h
+only_gap : (c : Constant) → is_gap c ≡ true → c ≡ Gap
+only_gap Gap h = refl
+only_gap (Utf8 bytes) h = absurd cc
+only_gap (Long value) h = absurd cc
+only_gap (ClassEntry name) h = absurd cc
+only_gap (StringEntry text) h = absurd cc
+only_gap (Methodref class n) h = absurd cc
+only_gap (NameAndType name descriptor) h = absurd cc
+
+gap_bytes : (c : Constant) → is_gap c ≡ true → constant_bytes c ≡ []
+gap_bytes c h = ap constant_bytes (only_gap c h)
+
+same_items : (x y : Constant) (xs ys : List Constant) (r s : List ℕ) → x ≡ y → SameThen xs ys r s → SameThen (x ∷ xs) (y ∷ ys) r s
+same_items x y xs ys r s e p = (cc (e, p.0), p.1)
+
+-- entries of pools, of which the first are gaps or not
+same_entries : (p q : List Constant) → length p < 2 ^ 16 → length q < 2 ^ 16 → (due : Bool) (xs ys : List Constant) (r s : List ℕ)
+    → has_gaps due xs ≡ true → has_gaps due ys ≡ true → AllByRecursion (IsEntry p) xs → AllByRecursion (IsEntry q) ys
+    → length xs ≡ length ys → flat_map constant_bytes xs ++ r ≡ flat_map constant_bytes ys ++ s → SameThen xs ys r s
+same_entries p q k l due [] [] r s g h f f' n e = (refl, e)
+same_entries p q k l due [] (y ∷ ys) r s g h f f' n e = absurd (omega arith)
+same_entries p q k l due (x ∷ xs) [] r s g h f f' n e = absurd (omega arith)
+same_entries p q k l true (x ∷ xs) (y ∷ ys) r s g h f f' n e =
+    let a = and_parts (is_gap x) (has_gaps false xs) g in
+    let b = and_parts (is_gap y) (has_gaps false ys) h in
+    let rest : flat_map constant_bytes xs ++ r ≡ flat_map constant_bytes ys ++ s =
+    sym (ap (λ (bs : List ℕ). (bs ++ flat_map constant_bytes xs) ++ r) (gap_bytes x a.0)) ∙ e ∙ ap (λ (bs : List ℕ). (bs ++ flat_map constant_bytes ys) ++ s) (gap_bytes y b.0) in
+    same_items x y xs ys r s (only_gap x a.0 ∙ sym (only_gap y b.0)) (same_entries p q k l false xs ys r s a.1 b.1 f.1 f'.1 (omega arith) rest)
+same_entries p q k l false (x ∷ xs) (y ∷ ys) r s g h f f' n e =
+    let a = and_parts (not (is_gap x)) (has_gaps (is_long x) xs) g in
+    let b = and_parts (not (is_gap y)) (has_gaps (is_long y) ys) h in
+    let first = constant-tells x y (flat_map constant_bytes xs ++ r) (flat_map constant_bytes ys ++ s) (entry_fits p k x (not-true (is_gap x) a.0) f.0) (entry_fits q l y (not-true (is_gap y) b.0) f'.0)
+    (sym (append_assoc (constant_bytes x) (flat_map constant_bytes xs) r) ∙ e ∙ append_assoc (constant_bytes y) (flat_map constant_bytes ys) s) in
+    let gaps : has_gaps (is_long x) ys ≡ true = subst (λ (c : Constant). has_gaps (is_long c) ys ≡ true) (sym first.0) b.1 in
+    same_items x y xs ys r s first.0 (same_entries p q k l (is_long x) xs ys r s a.1 gaps f.1 f'.1 (omega arith) first.1)
 
 same_pool : (xs ys : List Constant) (r s : List ℕ) → IsPool xs → IsPool ys → length xs ≡ length ys → flat_map constant_bytes xs ++ r ≡ flat_map constant_bytes ys ++ s → SameThen xs ys r s
-same_pool (Gap ∷ xs) (Gap ∷ ys) r s f g l e =
-    let all_fit = λ (zs : List Constant) (h : IsPool (Gap ∷ zs)). each (IsEntry (Gap ∷ zs)) ConstantFits (entry_fits (Gap ∷ zs) h.0) zs h.1 in
-    let p = flat_map-tells ConstantFits constant_bytes constant-tells xs ys r s (omega arith) (all_fit xs f) (all_fit ys g) e in
-    (ap (λ (zs : List Constant). Gap ∷ zs) p.0, p.1)
-same_pool (Gap ∷ xs) ys r s f g l e = absurd g
-same_pool xs ys r s f g l e = absurd f
+same_pool xs ys r s f g l e = same_entries xs ys f.count g.count true xs ys r s f.gaps g.gaps f.entries g.entries l e
 
 -- ---- methods
 
@@ -157,8 +191,8 @@ bytes_by_parts c = simp append_assoc
 
 same_class : (c d : Class) → InProfile c → InProfile d → class_bytes c ≡ class_bytes d → c ≡ d
 same_class c d f g e =
-    let l = pool_fits c.pool f.pool in
-    let k = pool_fits d.pool g.pool in
+    let l = f.pool.count in
+    let k = g.pool.count in
     let parts = sym (bytes_by_parts c) ∙ e ∙ bytes_by_parts d in
     let magic = u4-tells 0xCAFEBABE 0xCAFEBABE _ _ (omega arith) (omega arith) parts in
     let minor = u2-tells 0 0 _ _ (omega arith) (omega arith) magic.1 in

@@ -135,3 +135,17 @@ utf8_entry pool n bytes lt t = let short : length bytes < 2 ^ 16 = omega (arith,
 -- an entry of a text that is written out
 pub spelled_entry : (pool : List Constant) (bytes : List ℕ) → list_all is_inner_ascii bytes ≡ true → length bytes < 2 ^ 16 → IsEntry pool (Utf8 bytes)
 spelled_entry pool bytes ascii lt = (lt, IsModifiedUtf8-ascii bytes ascii)
+
+-- an entry of an atom
+pub name_entry_text : (pool : List Constant) (name : List ℕ) → is_thin_name name ≡ true → IsEntry pool (Utf8 name)
+name_entry_text pool name h =
+    let t = name_text name h in
+    let m = character_list name t.characters in
+    (omega (arith, t.short), IsModifiedUtf8-ascii name m)
+  where
+    inner : (c : ℕ) → is_name_character c ≡ true → is_inner_ascii c ≡ true
+    inner c h = grind (arith, nat_tests)
+
+    character_list : (cs : List ℕ) → list_all is_name_character cs ≡ true → list_all is_inner_ascii cs ≡ true
+    character_list [] h = refl
+    character_list (c ∷ cs) h = let p = and_parts (is_name_character c) (list_all is_name_character cs) h in and_from _ _ (inner c p.0) (character_list cs p.1)

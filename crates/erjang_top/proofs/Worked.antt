@@ -11,7 +11,7 @@ use Rattle.erjang_top.specs.declared.compile.Fault.TheVariants as fault
 use Rattle.erjang_top.specs.declared.compile.Refusal.TheVariants as refusal
 use Rattle.erjang_top.specs.Answers.{NotBuilt, First, Held, Compiled, PutFailed, Told, SameCounts, longest_file}
 use Rattle.erjang_top.specs.Words.{Compile}
-use Rattle.erjang_top.proofs.OneModule.{one_module}
+use Rattle.erjang_top.proofs.OneText.{one_module}
 use Rattle.erjang_top.specs.Work.{Builds, IsClassOf, Works}
 
 -- that the shelf holds these bytes under the source's name, and not too many

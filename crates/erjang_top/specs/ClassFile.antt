@@ -1,25 +1,35 @@
 -- A class and its bytes (JVMS SE 7, 4.1 to 4.7), for the entries, attributes and instructions that are
 -- written so far.
-use Rattle.std.specs.Prelude.{ℕ, ◌+◌, List, [], ◌∷◌, ◌++◌, length, Option, None, Some}
-use Rattle.std.specs.Int.{to_be_bytes, w16, w32}
+use Rattle.std.specs.Prelude.{ℕ, ℤ, ◌+◌, List, [], ◌∷◌, ◌++◌, length, Option, None, Some}
+use Rattle.std.specs.Int.{to_be_bytes, cast_unsigned, w16, w32, w64}
 use Rattle.std.specs.List.{flat_map}
 
--- an entry of the constant pool (4.4); index 0 is a gap, which has no bytes
+-- an entry of the constant pool (4.4); index 0 and the index behind a Long are gaps, which have no bytes
 pub data Constant : Type 0 where
   Gap : Constant
   Utf8 : (bytes : List ℕ) → Constant
+  Long : (value : ℤ) → Constant
   ClassEntry : (name : ℕ) → Constant
+  StringEntry : (text : ℕ) → Constant
   Methodref : (class name_and_type : ℕ) → Constant
   NameAndType : (name descriptor : ℕ) → Constant
 
--- how an instruction has its local's index: in the opcode, or in operands of one byte or two
+-- how an instruction has its local's index: in the opcode, or in operands of one byte or, behind `wide`, two
 pub data Width : Type 0 where
   Short : Width
+  Byte : Width
+  Wide : Width
 
 -- an instruction (chapter 6)
 pub data Op : Type 0 where
   IConst : (value : ℕ) → Op
+  SIPush : (value : ℤ) → Op
+  -- `ldc_w` of a String
+  LdcW : (index : ℕ) → Op
+  -- `ldc2_w` of a Long
+  Ldc2W : (index : ℕ) → Op
   ALoad : (width : Width) (local : ℕ) → Op
+  AStore : (width : Width) (local : ℕ) → Op
   Invoke : (index : ℕ) → Op
   IReturn : Op
 
@@ -57,13 +67,25 @@ counted bytes = u4 (length bytes) ++ bytes
 abbrev pub constant_bytes : Constant → List ℕ
 constant_bytes Gap = []
 constant_bytes (Utf8 bytes) = 1 ∷ (u2 (length bytes) ++ bytes)
+constant_bytes (Long value) = 5 ∷ to_be_bytes w64 (cast_unsigned w64 value)
 constant_bytes (ClassEntry name) = 7 ∷ u2 name
+constant_bytes (StringEntry text) = 8 ∷ u2 text
 constant_bytes (Methodref class name_and_type) = 10 ∷ (u2 class ++ u2 name_and_type)
 constant_bytes (NameAndType name descriptor) = 12 ∷ (u2 name ++ u2 descriptor)
 
+-- an instruction on a local: the first of the opcodes that have the local in them, or the opcode with an operand
+abbrev pub local_bytes : ℕ → ℕ → Width → ℕ → List ℕ
+local_bytes first opcode Short local = (first + local) ∷ []
+local_bytes first opcode Byte local = opcode ∷ local ∷ []
+local_bytes first opcode Wide local = 196 ∷ opcode ∷ u2 local
+
 abbrev pub op_bytes : Op → List ℕ
 op_bytes (IConst value) = (3 + value) ∷ []
-op_bytes (ALoad Short local) = (42 + local) ∷ []
+op_bytes (SIPush value) = 17 ∷ to_be_bytes w16 (cast_unsigned w16 value)
+op_bytes (LdcW index) = 19 ∷ u2 index
+op_bytes (Ldc2W index) = 20 ∷ u2 index
+op_bytes (ALoad width local) = local_bytes 42 25 width local
+op_bytes (AStore width local) = local_bytes 75 58 width local
 op_bytes (Invoke index) = 184 ∷ u2 index
 op_bytes IReturn = 172 ∷ []
 

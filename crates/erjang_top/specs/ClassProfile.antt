@@ -1,10 +1,11 @@
 -- Which classes there are: numbers that fit their fields, indices of entries of the right kind (JVMS SE 7,
 -- 4.4 to 4.7), and what this project's profile leaves of class files.
-use Rattle.std.specs.Prelude.{◌≡◌, ◌≢◌, ℕ, ◌+◌, ◌/◌, ◌%◌, ◌^◌, ◌<◌, ◌≤◌, ◌⊎◌, Bool, true, nat_eq, nat_lt, ◌&&◌, if◌then◌else◌, List, [], ◌∷◌, length, map, codes, slice_get, Option, None, Some, IsSome, MatchOption, unwrap_or, bit_and}
+use Rattle.std.specs.Prelude.{◌≡◌, ◌≢◌, ℕ, ℤ, ◌+◌, ◌/◌, ◌%◌, ◌^◌, ◌<◌, ◌≤◌, ◌⊎◌, Bool, true, false, not, nat_eq, nat_lt, ◌&&◌, if◌then◌else◌, List, [], ◌∷◌, length, map, codes, slice_get, Option, None, Some, IsSome, FitsSigned, MatchOption, unwrap_or, bit_and}
+use Rattle.std.specs.Int.{w16, w64}
 use Rattle.std.specs.List.{flat_map, AllByRecursion, IsDistinct}
 use Rattle.std.specs.Str.{bytes_eq, all_scalars}
 use Rattle.std.specs.Option.{option_and_then}
-use Rattle.erjang_top.specs.ClassFile.{Constant, Gap, Utf8, ClassEntry, Methodref, NameAndType, Short, Op, IConst, ALoad, Invoke, IReturn, Method, Class, op_bytes, code_bytes, code_content, class_bytes}
+use Rattle.erjang_top.specs.ClassFile.{Constant, Gap, Utf8, Long, ClassEntry, StringEntry, Methodref, NameAndType, Width, Short, Byte, Wide, Op, IConst, SIPush, LdcW, Ldc2W, ALoad, AStore, Invoke, IReturn, Method, Class, op_bytes, code_bytes, code_content, class_bytes}
 use Rattle.erjang_top.specs.Mangle.{class_name, method_name}
 
 -- a UTF-16 unit in modified UTF-8 (4.4.7): 0 takes two bytes, and a surrogate three like every unit from 2,048 on
@@ -33,6 +34,21 @@ class_in pool _ = None
 -- the name of the class
 abbrev pub class_at : List Constant → ℕ → Option (List ℕ)
 class_at pool index = option_and_then (class_in pool) (slice_get pool index)
+
+abbrev pub string_in : List Constant → Constant → Option (List ℕ)
+string_in pool (StringEntry text) = utf8_at pool text
+string_in pool _ = None
+
+-- the text of the string
+abbrev pub string_at : List Constant → ℕ → Option (List ℕ)
+string_at pool index = option_and_then (string_in pool) (slice_get pool index)
+
+abbrev pub long_in : Constant → Option ℤ
+long_in (Long value) = Some value
+long_in _ = None
+
+abbrev pub long_at : List Constant → ℕ → Option ℤ
+long_at pool index = option_and_then long_in (slice_get pool index)
 
 abbrev pub both : Option (List ℕ) → Option (List ℕ) → Option (List ℕ × List ℕ)
 both (Some a) (Some b) = Some (a, b)
@@ -63,18 +79,36 @@ callee_in pool _ = None
 abbrev pub callee_at : List Constant → ℕ → Option Callee
 callee_at pool index = option_and_then (callee_in pool) (slice_get pool index)
 
--- an entry that names entries of the right kind
+-- an entry whose value fits it, or that names entries of the right kind
 abbrev pub IsEntry : List Constant → Constant → Type 0
-IsEntry pool Gap = ⊥
+IsEntry pool Gap = Unit {0}
 IsEntry pool (Utf8 bytes) = (length bytes < 2 ^ 16) × IsModifiedUtf8 bytes
+IsEntry pool (Long value) = FitsSigned w64 value
+IsEntry pool (StringEntry text) = IsSome (utf8_at pool text)
 IsEntry pool (ClassEntry name) = IsSome (utf8_at pool name)
 IsEntry pool (Methodref class name_and_type) = IsSome (class_at pool class) × IsSome (name_and_type_at pool name_and_type)
 IsEntry pool (NameAndType name descriptor) = IsSome (utf8_at pool name) × IsSome (utf8_at pool descriptor)
 
+abbrev pub is_gap : Constant → Bool
+is_gap Gap = true
+is_gap _ = false
+
+-- an entry that takes two indices (4.4.5)
+abbrev pub is_long : Constant → Bool
+is_long (Long value) = true
+is_long _ = false
+
+-- gaps stand where they are due and nowhere else; one is due at first, or not
+abbrev pub has_gaps : Bool → List Constant → Bool
+has_gaps due [] = not due
+has_gaps true (c ∷ entries) = is_gap c && has_gaps false entries
+has_gaps false (c ∷ entries) = not (is_gap c) && has_gaps (is_long c) entries
+
 -- a gap at index 0 and entries from 1 on, with a count of two bytes
-abbrev pub IsPool : List Constant → Type 0
-IsPool (Gap ∷ entries) = (length (Gap ∷ entries) < 2 ^ 16) × AllByRecursion (IsEntry (Gap ∷ entries)) entries
-IsPool _ = ⊥
+pub record IsPool (pool : List Constant) : Type 0 where
+  pub count : length pool < 2 ^ 16
+  pub gaps : has_gaps true pool ≡ true
+  pub entries : AllByRecursion (IsEntry pool) pool
 
 -- the class of a module whose name is not empty
 abbrev pub IsClassName : List ℕ → Type 0
@@ -88,10 +122,20 @@ IsMethodName text = (name : List ℕ) × (arity : ℕ) × (arity < 256) × (all_
 abbrev pub method_descriptor : List ℕ
 method_descriptor = codes "(Lerl/Proc;I)I"
 
+-- a local whose index fits
+abbrev pub IsLocal : Width → ℕ → Type 0
+IsLocal Short local = local ≤ 3
+IsLocal Byte local = local < 2 ^ 8
+IsLocal Wide local = local < 2 ^ 16
+
 -- an instruction whose operands fit it
 abbrev pub IsOp : List Constant → Op → Type 0
 IsOp pool (IConst value) = value ≤ 5
-IsOp pool (ALoad Short local) = local ≤ 3
+IsOp pool (SIPush value) = FitsSigned w16 value
+IsOp pool (LdcW index) = IsSome (string_at pool index)
+IsOp pool (Ldc2W index) = IsSome (long_at pool index)
+IsOp pool (ALoad width local) = IsLocal width local
+IsOp pool (AStore width local) = IsLocal width local
 IsOp pool (Invoke index) = IsSome (callee_at pool index)
 IsOp pool IReturn = Unit {0}
 

@@ -1,26 +1,31 @@
 -- What class code does: one instruction of a method (JVMS SE 7, chapter 6), a method's run to its answer, and one
 -- turn of a process. It knows a byte offset and a table of instructions.
-use Rattle.std.specs.Prelude.{ℕ, zero, suc, ℤ, pos, negsuc, ◌+◌, ◌-◌, ◌*◌, Bool, true, false, nat_eq, nat_le, ◌&&◌, if◌then◌else◌, List, [], ◌∷◌, ◌++◌, length, replicate, map, codes, slice_get, unwrap_or, Option, None, Some}
+use Rattle.std.specs.Prelude.{ℕ, zero, suc, ℤ, pos, negsuc, ◌+◌, ◌-◌, ◌*◌, Bool, true, false, nat_eq, nat_lt, nat_le, ◌&&◌, if◌then◌else◌, List, [], ◌∷◌, ◌++◌, length, replicate, map, codes, slice_get, slice_set, unwrap_or, Option, None, Some}
 use Rattle.std.specs.Option.{option_and_then, option_map}
 use Rattle.std.specs.Str.{bytes_eq}
 use Rattle.ej_term.specs.declared.class.Class3.{Class3}
-use Rattle.ej_term.specs.declared.class.Class3.TheVariants.{Error}
-use Rattle.ej_term.specs.Term.{Term, Atom}
+use Rattle.ej_term.specs.declared.class.Class3.TheVariants.{Error, Exit, Throw}
+use Rattle.ej_term.specs.Atoms.{is_plain}
+use Rattle.ej_term.specs.Term.{Term, Atom, Nil}
+use Rattle.ej_term.specs.Term as term
 use Rattle.ej_world.specs.World.{Begin, Call, Event, Raise, Answer, Fault}
 use Rattle.ej_world.specs.Run.{Outcome, Runs, Waits, Ended, Turned, Code}
 use Rattle.beam_code.specs.Turn.{list_of, end_reason}
-use Rattle.erjang_top.specs.ClassFile.{Op, IConst, ALoad, Invoke, IReturn, Method, Class, op_bytes}
-use Rattle.erjang_top.specs.ClassProfile.{Callee, callee_at, class_at}
+use Rattle.erjang_top.specs.ClassFile.{Op, IConst, SIPush, LdcW, Ldc2W, ALoad, AStore, Invoke, IReturn, Method, Class, op_bytes}
+use Rattle.erjang_top.specs.ClassProfile.{Callee, callee_at, class_at, string_at, long_at}
 use Rattle.erjang_top.specs.Linking.{text_at, is_runtime, is_own}
 use Rattle.erjang_top.specs.Mangle.{class_name, method_name}
 use Rattle.erjang_top.specs.Typing.{signature_of}
 
--- what a local or a place of the operand stack holds
+-- what a local or a place of the operand stack holds; a Long takes two places, its own and a Top behind it
 pub data Value : Type 0 where
   Top : Value
   Int : (n : ℤ) → Value
+  Long : (n : ℤ) → Value
   Null : Value
   OfTerm : (t : Term) → Value
+  -- a string, by the bytes of its entry
+  OfText : (text : List ℕ) → Value
   Proc : Value
 
 -- a method of a class that a process is to enter, with the values that it finds there
@@ -36,16 +41,18 @@ pub record Saved : Type 0 where
   pub handler : Option ℕ
 
 -- what a process holds beside the method that runs: the entered values, the result, the pending exception, the target
--- of a call, and the saved frames, the latest first. What no runtime method so far writes stays as it began.
+-- of a call, and the saved frames, the latest first; and what its turn has shown so far. What no runtime method so far
+-- writes stays as it began.
 pub record Held : Type 0 where
   pub entered : List Value
   pub result : Option Term
   pub pending : Option (Class3 × Term)
   pub target : Option Goes
   pub frames : List Saved
+  pub shown : List Event
 
 abbrev pub nothing_held : List Value → Held
-nothing_held entered = record { entered = entered; result = None; pending = None; target = None; frames = [] }
+nothing_held entered = record { entered = entered; result = None; pending = None; target = None; frames = []; shown = [] }
 
 -- a method that runs
 pub record Activation : Type 0 where
@@ -80,11 +87,46 @@ abbrev pub give : List Value → Held → Called
 give (Proc ∷ OfTerm t ∷ []) held = Gave (record held { result = Some t }) None
 give _ held = Faulted
 
--- the runtime method of a name
-abbrev pub called : List ℕ → List Value → Held → Called
-called name args held =
+-- by its number
+abbrev pub class_of : ℤ → Option Class3
+class_of (pos n) = if nat_eq n 0 then Some Error else if nat_eq n 1 then Some Exit else if nat_eq n 2 then Some Throw else None
+class_of (negsuc n) = None
+
+abbrev pub raised : ℕ → Term → Held → Option Class3 → Called
+raised me reason held None = Faulted
+raised me reason held (Some class) = Gave (record held { pending = Some (class, reason); shown = held.shown ++ Raise me class reason ∷ [] }) None
+
+-- raise: an exception of the class of that number is pending, and is seen
+abbrev pub raise : ℕ → List Value → Held → Called
+raise me (Proc ∷ Int class ∷ OfTerm reason ∷ []) held = raised me reason held (class_of class)
+raise me _ held = Faulted
+
+-- integer: that integer
+abbrev pub integer : List Value → Held → Called
+integer (Long n ∷ Top ∷ []) held = Gave held (Some (OfTerm (term.Int n)))
+integer _ held = Faulted
+
+-- the term with that canonical print, of the atoms without quotes and nil; no other print is read so far
+abbrev pub term_printed : List ℕ → Option Term
+term_printed text = if is_plain text then Some (Atom text) else if bytes_eq text (codes "[]") then Some Nil else None
+
+abbrev pub literal : Held → Option Term → Called
+literal held None = Faulted
+literal held (Some t) = Gave held (Some (OfTerm t))
+
+-- lit: the term with that canonical print
+abbrev pub lit : List Value → Held → Called
+lit (OfText text ∷ []) held = literal held (term_printed text)
+lit _ held = Faulted
+
+-- the runtime method of a name, in that process
+abbrev pub called : ℕ → List ℕ → List Value → Held → Called
+called me name args held =
     if bytes_eq name (codes "take") then take args held
     else if bytes_eq name (codes "give") then give args held
+    else if bytes_eq name (codes "raise") then raise me args held
+    else if bytes_eq name (codes "integer") then integer args held
+    else if bytes_eq name (codes "lit") then lit args held
     else Faulted
 
 -- how many values a method takes, by its descriptor
@@ -109,6 +151,7 @@ activation c m entry = record { class = c; method = m; offset = 0; locals = Proc
 abbrev pub is_reference : Value → Bool
 is_reference Null = true
 is_reference (OfTerm t) = true
+is_reference (OfText text) = true
 is_reference Proc = true
 is_reference _ = false
 
@@ -144,9 +187,9 @@ abbrev pub entered_own : Activation → Op → List Value × List Value → Opti
 entered_own a op (Proc ∷ Int (pos entry) ∷ [], stack) (Some m) = Enters m entry (on_with a op stack)
 entered_own a op _ _ = Faults
 
-abbrev pub invoked : Activation → Op → Held → Callee → List Value × List Value → Stepped
-invoked a op held callee values =
-    if is_runtime callee then after_call a op values.1 (called callee.name values.0 held)
+abbrev pub invoked : ℕ → Activation → Op → Held → Callee → List Value × List Value → Stepped
+invoked me a op held callee values =
+    if is_runtime callee then after_call a op values.1 (called me callee.name values.0 held)
     else if is_own a.class callee then entered_own a op values (method_of a.class callee.name a.class.methods)
     else Faults
 
@@ -156,24 +199,34 @@ or_fault s = unwrap_or s Faults
 abbrev pub loaded_local : Activation → Op → Held → Value → Stepped
 loaded_local a op held v = if is_reference v then On (on_with a op (v ∷ a.stack)) held else Faults
 
+abbrev pub stored_local : Activation → Op → Held → ℕ → List Value → Stepped
+stored_local a op held local [] = Faults
+stored_local a op held local (v ∷ stack) =
+    if is_reference v && nat_lt local (length a.locals) then On (record (on_with a op stack) { locals = slice_set a.locals local v }) held else Faults
+
 abbrev pub answered : List Value → Stepped
 answered (Int status ∷ stack) = Answers status
 answered _ = Faults
 
-abbrev pub perform : Activation → Held → Op → Stepped
-perform a held (IConst value) = On (on_with a (IConst value) (Int (pos value) ∷ a.stack)) held
-perform a held (ALoad width local) = or_fault (option_map (loaded_local a (ALoad width local) held) (slice_get a.locals local))
-perform a held (Invoke index) =
-    or_fault (option_and_then (λ callee. option_map (invoked a (Invoke index) held callee) (split_stack (count_of callee.descriptor) a.stack)) (callee_at a.class.pool index))
-perform a held IReturn = answered a.stack
+abbrev pub perform : ℕ → Activation → Held → Op → Stepped
+perform me a held (IConst value) = On (on_with a (IConst value) (Int (pos value) ∷ a.stack)) held
+perform me a held (SIPush value) = On (on_with a (SIPush value) (Int value ∷ a.stack)) held
+perform me a held (LdcW index) = or_fault (option_map (λ text. On (on_with a (LdcW index) (OfText text ∷ a.stack)) held) (string_at a.class.pool index))
+perform me a held (Ldc2W index) = or_fault (option_map (λ n. On (on_with a (Ldc2W index) (Top ∷ Long n ∷ a.stack)) held) (long_at a.class.pool index))
+perform me a held (ALoad width local) = or_fault (option_map (loaded_local a (ALoad width local) held) (slice_get a.locals local))
+perform me a held (AStore width local) = stored_local a (AStore width local) held local a.stack
+perform me a held (Invoke index) =
+    or_fault (option_and_then (λ callee. option_map (invoked me a (Invoke index) held callee) (split_stack (count_of callee.descriptor) a.stack)) (callee_at a.class.pool index))
+perform me a held IReturn = answered a.stack
 
-abbrev pub step : Activation → Held → Stepped
-step a held = or_fault (option_map (perform a held) (op_at a.method.code a.offset))
+abbrev pub step : ℕ → Activation → Held → Stepped
+step me a held = or_fault (option_map (perform me a held) (op_at a.method.code a.offset))
 
 -- what a method's run comes to: its status, what the process then holds and how many instructions are left, or a fault
+-- with what it held
 pub data Ran : Type 0 where
   Status : (status : ℤ) (held : Held) (left : ℕ) → Ran
-  Failed : Ran
+  Failed : (held : Held) → Ran
 
 -- a turn has at most this many methods on its call stack
 abbrev pub most_methods : ℕ
@@ -183,30 +236,30 @@ most_methods = 1024
 abbrev pub go : (Activation → List Activation → Held → Ran) → ℕ → List Activation → Held → Stepped → Ran
 go on left callers held (On a held') = on a callers held'
 go on left callers held (Enters method entry caller) =
-    if nat_le (length callers + 2) most_methods then on (activation caller.class method entry) (caller ∷ callers) held else Failed
+    if nat_le (length callers + 2) most_methods then on (activation caller.class method entry) (caller ∷ callers) held else Failed held
 go on left [] held (Answers status) = Status status held left
 go on left (c ∷ callers) held (Answers status) = on (record c { stack = Int status ∷ c.stack }) callers held
-go on left callers held Faults = Failed
+go on left callers held Faults = Failed held
 
 -- runs a method to its answer, with so many instructions left; one more than that is a fault
-abbrev pub run_method : ℕ → Activation → List Activation → Held → Ran
-run_method zero a callers held = Failed
-run_method (suc left) a callers held = go (run_method left) left callers held (step a held)
+abbrev pub run_method : ℕ → ℕ → Activation → List Activation → Held → Ran
+run_method me zero a callers held = Failed held
+run_method me (suc left) a callers held = go (run_method me left) left callers held (step me a held)
 
 -- a process: how it is to begin, or where it goes on and what it holds
 pub data State : Type 0 where
   Begun : (how : Begin) → State
   At : (goes : Goes) (held : Held) → State
 
--- code that is at fault ends its process
-abbrev pub fault : ℕ → State → Turned State
-fault me state = record { events = Fault me ∷ []; outcome = Ended (Atom (codes "fault")); state = state }
-
 abbrev pub ended : List Event → Term → State → Turned State
 ended events reason state = record { events = events; outcome = Ended reason; state = state }
 
+-- code that is at fault ends its process
+abbrev pub fault : ℕ → State → Held → Turned State
+fault me state held = ended (held.shown ++ Fault me ∷ []) (Atom (codes "fault")) state
+
 abbrev pub stays : Outcome → Goes → Held → Turned State
-stays outcome goes held = record { events = []; outcome = outcome; state = At goes held }
+stays outcome goes held = record { events = held.shown; outcome = outcome; state = At goes (record held { shown = [] }) }
 
 -- how a turn goes on after a transfer, from where and with what the process holds
 abbrev pub Onward : Type 0
@@ -214,23 +267,23 @@ Onward = Goes → Held → Turned State
 
 -- a transfer to the latest frame, which is taken off; with none the code is at fault
 abbrev pub to_frame : ℕ → Onward → State → Held → List Saved → Turned State
-to_frame me on before held [] = fault me before
+to_frame me on before held [] = fault me before held
 to_frame me on before held (f ∷ frames) = on f.goes (record held { frames = frames })
 
 -- status 0: the result is returned, to the latest frame or as the process's own
 abbrev pub on_returned : ℕ → Onward → State → Held → Option Term → List Saved → Turned State
-on_returned me on before held None frames = fault me before
-on_returned me on before held (Some value) [] = ended (Answer me value ∷ []) (Atom (codes "normal")) before
+on_returned me on before held None frames = fault me before held
+on_returned me on before held (Some value) [] = ended (held.shown ++ Answer me value ∷ []) (Atom (codes "normal")) before
 on_returned me on before held (Some value) (f ∷ frames) = to_frame me on before held (f ∷ frames)
 
 -- status 1: the target is entered
 abbrev pub on_called : ℕ → Onward → State → Held → Option Goes → Turned State
-on_called me on before held None = fault me before
+on_called me on before held None = fault me before held
 on_called me on before held (Some target) = on target held
 
 -- status 2: the latest frame is taken off, and the process waits there
 abbrev pub on_waiting : ℕ → State → Held → List Saved → Turned State
-on_waiting me before held [] = fault me before
+on_waiting me before held [] = fault me before held
 on_waiting me before held (f ∷ frames) = stays Waits f.goes (record held { frames = frames })
 
 -- the frame's handler is entered, if it has one, and else what comes of the frames behind it
@@ -240,28 +293,28 @@ handled on held f frames further (Some entry) = on (record f.goes { entry = entr
 
 -- status 4: frames are dropped to the first that has a handler, and with none the process ends by the exception
 abbrev pub unwound : Onward → State → Held → Class3 × Term → List Saved → Turned State
-unwound on before held exception [] = ended [] (end_reason exception.0 exception.1) before
+unwound on before held exception [] = ended held.shown (end_reason exception.0 exception.1) before
 unwound on before held exception (f ∷ frames) = handled on held f frames (unwound on before held exception frames) f.handler
 
 abbrev pub on_raised : ℕ → Onward → State → Held → Option (Class3 × Term) → Turned State
-on_raised me on before held None = fault me before
+on_raised me on before held None = fault me before held
 on_raised me on before held (Some exception) = unwound on before held exception held.frames
 
 -- what a status decides
 abbrev pub by_status : ℕ → Onward → State → Held → ℤ → Turned State
-by_status me on before held (negsuc n) = fault me before
+by_status me on before held (negsuc n) = fault me before held
 by_status me on before held (pos n) =
     if nat_eq n 0 then on_returned me on before held held.result held.frames
     else if nat_eq n 1 then on_called me on before held held.target
     else if nat_eq n 2 then on_waiting me before held held.frames
     else if nat_eq n 3 then to_frame me on before held held.frames
     else if nat_eq n 4 then on_raised me on before held held.pending
-    else fault me before
+    else fault me before held
 
 -- what comes of a method's run, where `on` goes on after a transfer with the instructions that are left
 abbrev pub after_run : ℕ → (ℕ → Onward) → State → Ran → Turned State
 after_run me on before (Status status held left) = by_status me (on left) before held status
-after_run me on before Failed = fault me before
+after_run me on before (Failed held) = fault me before held
 
 -- So many transfers: a method is entered where the process goes on, with so many instructions left, and its status
 -- decides. After the last transfer the turn is over.
@@ -269,7 +322,7 @@ abbrev pub enter : ℕ → ℕ → ℕ → Goes → Held → Turned State
 enter zero me left goes held = stays Runs goes held
 enter (suc transfers) me left goes held =
     after_run me (λ left' goes' held'. enter transfers me left' goes' held') (At goes held)
-    (run_method left (activation goes.class goes.method goes.entry) [] (record held { entered = goes.entered }))
+    (run_method me left (activation goes.class goes.method goes.entry) [] (record held { entered = goes.entered }))
 
 -- a turn of N transfers performs at most (N + 1) times this many instructions
 abbrev pub instructions_each : ℕ

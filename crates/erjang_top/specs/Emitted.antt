@@ -1,9 +1,11 @@
 -- What holds of the bytes that a module is compiled to.
-use Rattle.std.specs.Prelude.{◌≡◌, ℕ, true, if◌then◌else◌, List, map, Option, Some}
+use Rattle.std.specs.Prelude.{◌≡◌, ◌≤◌, ℕ, true, length, if◌then◌else◌, List, map, Option, Some}
 use Rattle.beam_code.specs.declared.module.Function.{Function}
 use Rattle.beam_code.specs.declared.module.Module.{Module}
+use Rattle.std.specs.List.{AllZip}
 use Rattle.beam_code.specs.Keys.{is_among, key_of}
-use Rattle.erjang_top.specs.ClassFile.{Method, Class}
+use Rattle.beam_code.specs.Weights.{weight, pool_weight}
+use Rattle.erjang_top.specs.ClassFile.{Method, Class, code_bytes}
 use Rattle.erjang_top.specs.ClassProfile.{ClassOf, class_at, utf8_at}
 use Rattle.erjang_top.specs.Linking.{linked}
 use Rattle.erjang_top.specs.Mangle.{class_name, method_name}
@@ -32,4 +34,7 @@ pub record Emitted (m : Module) (bytes : List ℕ) : Type 0 where
   pub methods : map (head_in class) class.methods ≡ map (method_head m) m.functions
   pub is_typed : typed class ≡ true
   pub is_linked : linked class ≡ true
+  -- a method's code is within its function's weight, and the pool within the module's
+  pub code_within : AllZip (λ f method. length (code_bytes method) ≤ weight f) m.functions class.methods
+  pub pool_within : length class.pool ≤ pool_weight m
   pub runs : RunsAs m class

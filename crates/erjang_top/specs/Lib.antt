@@ -4,11 +4,6 @@ pub mod ClassProfile
 pub mod Typing
 pub mod Linking
 pub mod Emitted
-pub mod Shape
-pub mod ShapeModule
-pub mod ShapeSound
-pub mod Template
-pub mod Written
 pub mod Source
 pub mod Words
 pub mod Answers
@@ -16,3 +11,15 @@ pub mod Work
 pub mod ClassTurn
 pub mod Runs
 pub mod Worked
+pub mod Flow
+pub mod ModuleClass
+pub mod Code
+pub mod SeenKeys
+pub mod LabelChecks
+pub mod SeenValues
+pub mod SlotCheck
+pub mod Written
+pub mod SeenExports
+pub mod Select
+pub mod Lines
+pub mod Rows

@@ -6,11 +6,15 @@ use Rattle.std.specs.Str.{bytes_eq}
 use Rattle.erjang_top.specs.ClassFile.{Op, Invoke, Class}
 use Rattle.erjang_top.specs.ClassProfile.{Callee, callee_at, class_at, utf8_at}
 
--- the runtime methods that are used so far, by name and descriptor: the entered value at a place, and the result
+-- the runtime methods that are used so far, by name and descriptor: the entered value at a place, the result, an
+-- exception, an integer, and the term of a print
 abbrev pub runtime_methods : List (List ℕ × List ℕ)
 runtime_methods =
     (codes "take", codes "(Lerl/Proc;I)Lerl/Term;")
     ∷ (codes "give", codes "(Lerl/Proc;Lerl/Term;)V")
+    ∷ (codes "raise", codes "(Lerl/Proc;ILerl/Term;)V")
+    ∷ (codes "integer", codes "(J)Lerl/Term;")
+    ∷ (codes "lit", codes "(Ljava/lang/String;)Lerl/Term;")
     ∷ []
 
 abbrev pub is_runtime : Callee → Bool

@@ -1,22 +1,24 @@
 -- The types of locals and operands at each instruction (JVMS SE 7, 4.10.1), for the instructions that are
 -- written so far.
-use Rattle.std.specs.Prelude.{ℕ, ◌-◌, Bool, true, false, nat_eq, nat_le, ◌&&◌, ◌||◌, if◌then◌else◌, List, [], ◌∷◌, ◌++◌, length, reverse, replicate, codes, slice_get, Option, None, Some, unwrap_or, is_none}
+use Rattle.std.specs.Prelude.{ℕ, ◌-◌, Bool, true, false, nat_eq, nat_lt, nat_le, ◌&&◌, ◌||◌, if◌then◌else◌, List, [], ◌∷◌, ◌++◌, length, reverse, replicate, codes, slice_get, slice_set, Option, None, Some, unwrap_or, is_none}
 use Rattle.std.specs.List.{list_all}
 use Rattle.std.specs.Str.{bytes_eq}
 use Rattle.std.specs.Option.{option_and_then, option_map}
-use Rattle.erjang_top.specs.ClassFile.{Constant, Op, IConst, ALoad, Invoke, IReturn, Method, Class}
-use Rattle.erjang_top.specs.ClassProfile.{callee_at}
+use Rattle.erjang_top.specs.ClassFile.{Constant, Op, IConst, SIPush, LdcW, Ldc2W, ALoad, AStore, Invoke, IReturn, Method, Class}
+use Rattle.erjang_top.specs.ClassProfile.{callee_at, string_at, long_at}
 
--- a verification type (4.10.1.2)
+-- a verification type (4.10.1.2); a Long takes two places, its own and a Top behind it
 pub data VType : Type 0 where
   Top : VType
   Integer : VType
+  Long : VType
   Null : VType
   Object : (class : List ℕ) → VType
 
 abbrev pub same_type : VType → VType → Bool
 same_type Top Top = true
 same_type Integer Integer = true
+same_type Long Long = true
 same_type Null Null = true
 same_type (Object a) (Object b) = bytes_eq a b
 same_type _ _ = false
@@ -55,6 +57,10 @@ pub record Signature : Type 0 where
 abbrev pub put_first : VType → Option (List VType × List ℕ) → Option (List VType × List ℕ)
 put_first t rest = option_map (λ p. (t ∷ p.0, p.1)) rest
 
+-- a Long and the place behind it
+abbrev pub put_long : Option (List VType × List ℕ) → Option (List VType × List ℕ)
+put_long rest = put_first Long (put_first Top rest)
+
 -- the types before a `)` and what stands behind it (4.3.3), where the characters so far of a class name, or
 -- none, were read
 abbrev pub types_in : Option (List ℕ) → List ℕ → Option (List VType × List ℕ)
@@ -62,6 +68,7 @@ types_in class [] = None
 types_in None (c ∷ text) =
     if nat_eq c 41 then Some ([], text)
     else if nat_eq c 73 then put_first Integer (types_in None text)
+    else if nat_eq c 74 then put_long (types_in None text)
     else if nat_eq c 76 then types_in (Some []) text
     else None
 types_in (Some class) (c ∷ text) =
@@ -97,10 +104,20 @@ given (Some t) stack = t ∷ stack
 abbrev pub with_stack : Frame → List VType → Frame
 with_stack f stack = record { locals = f.locals; stack = stack }
 
+-- a reference is popped into a local that there is; no local holds a Long so far
+abbrev pub stored : Frame → ℕ → List VType → Option (Option Frame)
+stored f local [] = None
+stored f local (t ∷ stack) =
+    if is_reference t && nat_lt local (length f.locals) then Some (Some (record { locals = slice_set f.locals local t; stack = stack })) else None
+
 -- what an instruction leaves of the frame before it: nothing where no row applies, and no frame where it
 -- does not go on to the next
 abbrev pub leaves : List Constant → Op → Frame → Option (Option Frame)
 leaves pool (IConst value) f = Some (Some (with_stack f (Integer ∷ f.stack)))
+leaves pool (SIPush value) f = Some (Some (with_stack f (Integer ∷ f.stack)))
+leaves pool (LdcW index) f = option_map (λ text. Some (with_stack f (Object (codes "java/lang/String") ∷ f.stack))) (string_at pool index)
+leaves pool (Ldc2W index) f = option_map (λ value. Some (with_stack f (Top ∷ Long ∷ f.stack))) (long_at pool index)
+leaves pool (AStore width local) f = stored f local f.stack
 leaves pool (ALoad width local) f = option_and_then (λ t. if is_reference t then Some (Some (with_stack f (t ∷ f.stack))) else None) (slice_get f.locals local)
 leaves pool (Invoke index) f =
     option_and_then (λ callee. option_and_then (λ signature. option_map (λ stack. Some (with_stack f (given signature.gives stack))) (taken (reverse signature.takes) f.stack)) (signature_of callee.descriptor)) (callee_at pool index)

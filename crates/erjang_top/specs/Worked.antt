@@ -1,5 +1,5 @@
 -- Worked scripts, by the definitions of both runs, to their lines.
-use Rattle.std.specs.Prelude.{◌≡◌, ℕ, pos, List, [], ◌∷◌, ◌++◌, codes, refl}
+use Rattle.std.specs.Prelude.{◌≡◌, ℕ, ◌+◌, true, pos, negsuc, List, [], ◌∷◌, ◌++◌, codes, refl}
 use Rattle.std.specs.List.{flat_map}
 use Rattle.ej_term.specs.Term.{Term, Int}
 use Rattle.ej_world.specs.Lines.{lines}
@@ -9,39 +9,85 @@ use Rattle.beam_code.specs.declared.instr.Instr.{Instr}
 use Rattle.beam_code.specs.declared.module.Function.{Function}
 use Rattle.beam_code.specs.declared.module.Module.{Module}
 use Rattle.beam_code.specs.declared.operand.Operand.TheVariants as operand
+use Rattle.beam_code.specs.declared.operand.Reg.TheVariants as register
+use Rattle.beam_code.specs.declared.operand.Src.{Src}
 use Rattle.beam_code.specs.declared.operand.Src.TheVariants as source
 use Rattle.beam_code.specs.Turn.{beam}
-use Rattle.erjang_top.specs.ClassFile.{Class}
+use Rattle.beam_code.specs.Opcode.{is_known, opcode_of}
 use Rattle.erjang_top.specs.ClassTurn.{jvm}
-use Rattle.erjang_top.specs.Mangle.{class_name, method_name}
-use Rattle.erjang_top.specs.Template.{return_class}
+use Rattle.erjang_top.specs.ModuleClass.{class_of}
 
 abbrev pub label_instruction : ℕ → Instr
 label_instruction n = record { row = 1; operands = operand.Count n ∷ []; fits_row = refl }
 
-abbrev pub info_instruction : Instr
-info_instruction = record { row = 4; operands = operand.Src (source.Atom (codes "m")) ∷ operand.Src (source.Atom (codes "f")) ∷ operand.Count 1 ∷ []; fits_row = refl }
+abbrev pub line_instruction : Instr
+line_instruction = record { row = 2; operands = []; fits_row = refl }
+
+abbrev pub info_instruction : List ℕ → ℕ → Instr
+info_instruction name arity = record { row = 4; operands = operand.Src (source.Atom (codes "m")) ∷ operand.Src (source.Atom name) ∷ operand.Count arity ∷ []; fits_row = refl }
+
+-- from a source that is read so far
+abbrev pub move_instruction : (from : Src) (to : ℕ) → is_known (opcode_of 5 (operand.Src from ∷ operand.Reg (register.X to) ∷ [])) ≡ true → Instr
+move_instruction from to fits = record { row = 5; operands = operand.Src from ∷ operand.Reg (register.X to) ∷ []; fits_row = fits }
+
+abbrev pub x : ℕ → Src
+x n = source.Reg (register.X n)
 
 abbrev pub return_instruction : Instr
 return_instruction = record { row = 22; operands = []; fits_row = refl }
 
 -- f/1, which returns its argument
 abbrev pub identity : Function
-identity = record { name = codes "f"; arity = 1; entry = 2; code = label_instruction 1 ∷ info_instruction ∷ label_instruction 2 ∷ return_instruction ∷ [] }
+identity = record { name = codes "f"; arity = 1; entry = 2; code = label_instruction 1 ∷ info_instruction (codes "f") 1 ∷ label_instruction 2 ∷ return_instruction ∷ [] }
 
--- the module m of it, which exports it, and its class
+-- the module m of it, which exports it
 abbrev pub public_module : Module
 public_module = record { name = codes "m"; exports = (codes "f", 1) ∷ []; functions = identity ∷ []; distinct = refl; exported = refl }
 
-abbrev pub public_class : Class
-public_class = return_class (class_name (codes "m")) (method_name (codes "f") 1) 0x0009
-
--- the same module with no exports, and its class
+-- the same module with no exports
 abbrev pub private_module : Module
 private_module = record { name = codes "m"; exports = []; functions = identity ∷ []; distinct = refl; exported = refl }
 
-abbrev pub private_class : Class
-private_class = return_class (class_name (codes "m")) (method_name (codes "f") 1) 0x000A
+-- f/2, which returns its second argument by way of x1023; what stands behind its `return` is not reached
+abbrev pub second : Function
+second = record {
+  name = codes "f";
+  arity = 2;
+  entry = 4;
+  code =
+      label_instruction 3 ∷ line_instruction ∷ info_instruction (codes "f") 2 ∷ label_instruction 4 ∷ move_instruction (x 1) 1023 refl ∷ label_instruction 9
+      ∷ move_instruction (x 1023) 0 refl ∷ return_instruction ∷ move_instruction source.Nil 0 refl ∷ return_instruction ∷ [];
+}
+
+-- a function without arguments that returns a value
+abbrev pub constant : List ℕ → ℕ → (value : Src) → is_known (opcode_of 5 (operand.Src value ∷ operand.Reg (register.X 0) ∷ [])) ≡ true → Function
+constant name label value fits = record {
+  name = name;
+  arity = 0;
+  entry = label + 1;
+  code = label_instruction label ∷ info_instruction name 0 ∷ label_instruction (label + 1) ∷ move_instruction value 0 fits ∷ return_instruction ∷ [];
+}
+
+-- a function that no call fits
+abbrev pub refuses : Function
+refuses = record {
+  name = codes "no";
+  arity = 1;
+  entry = 12;
+  code = label_instruction 11 ∷ info_instruction (codes "no") 1 ∷ label_instruction 12 ∷ info_instruction (codes "no") 1 ∷ return_instruction ∷ [];
+}
+
+-- the module m of several functions
+abbrev pub moves_module : Module
+moves_module = record {
+  name = codes "m";
+  exports = (codes "no", 1) ∷ (codes "f", 2) ∷ (codes "int", 0) ∷ (codes "atom", 0) ∷ (codes "nil", 0) ∷ (codes "f", 2) ∷ [];
+  functions =
+      identity ∷ second ∷ constant (codes "int") 5 (source.Int (negsuc 9223372036854775807)) refl ∷ constant (codes "atom") 7 (source.Atom (codes "int")) refl
+      ∷ refuses ∷ constant (codes "nil") 13 source.Nil refl ∷ [];
+  distinct = refl;
+  exported = refl;
+}
 
 -- a process that is started and runs for one transfer
 abbrev pub started : List ℕ → List ℕ → List Term → List Choice
@@ -54,14 +100,14 @@ number n = Int (pos n)
 abbrev pub text : List (List ℕ) → List ℕ
 text expected = flat_map (λ line. line ++ 10 ∷ []) expected
 
--- both machines give these lines for that script
-pub record Gives (m : Module) (c : Class) (script : List Choice) (expected : List (List ℕ)) : Type 0 where
+-- both machines give these lines for that script over a module and its class
+pub record Gives (m : Module) (script : List Choice) (expected : List (List ℕ)) : Type 0 where
   pub beam_gives : lines (run (beam (m ∷ [])) script) ≡ text expected
-  pub class_gives : lines (run (jvm (c ∷ [])) script) ≡ text expected
+  pub class_gives : lines (run (jvm (class_of m ∷ [])) script) ≡ text expected
 
 -- a function that is there returns
 abbrev pub Returns : Type 0
-Returns = Gives public_module public_class (started (codes "m") (codes "f") (number 7 ∷ []))
+Returns = Gives public_module (started (codes "m") (codes "f") (number 7 ∷ []))
     (codes "start 0 {m,f,[7]}" ∷ codes "ready [0]" ∷ codes "result 0 7" ∷ codes "exit 0 normal" ∷ codes "turn 0 0" ∷ codes "ready []" ∷ [])
 
 -- what is not there, is of another arity, or is not exported, is undefined
@@ -69,15 +115,41 @@ abbrev pub undefined_lines : List ℕ → List (List ℕ)
 undefined_lines call = (codes "start 0 " ++ call) ∷ codes "ready [0]" ∷ codes "raise 0 error undef" ∷ codes "exit 0 {undef,[]}" ∷ codes "turn 0 0" ∷ codes "ready []" ∷ []
 
 abbrev pub NotLoaded : Type 0
-NotLoaded = Gives public_module public_class (started (codes "n") (codes "f") (number 7 ∷ [])) (undefined_lines (codes "{n,f,[7]}"))
+NotLoaded = Gives public_module (started (codes "n") (codes "f") (number 7 ∷ [])) (undefined_lines (codes "{n,f,[7]}"))
 
 abbrev pub OtherArity : Type 0
-OtherArity = Gives public_module public_class (started (codes "m") (codes "f") (number 7 ∷ number 8 ∷ [])) (undefined_lines (codes "{m,f,[7,8]}"))
+OtherArity = Gives public_module (started (codes "m") (codes "f") (number 7 ∷ number 8 ∷ [])) (undefined_lines (codes "{m,f,[7,8]}"))
 
 abbrev pub NotExported : Type 0
-NotExported = Gives private_module private_class (started (codes "m") (codes "f") (number 7 ∷ [])) (undefined_lines (codes "{m,f,[7]}"))
+NotExported = Gives private_module (started (codes "m") (codes "f") (number 7 ∷ [])) (undefined_lines (codes "{m,f,[7]}"))
 
 -- a process that has ended, and one that there is not, have nothing to do
 abbrev pub NothingToDo : Type 0
-NothingToDo = Gives public_module public_class (Run 0 1 ∷ started (codes "m") (codes "f") (number 7 ∷ []) ++ Run 0 5 ∷ [])
+NothingToDo = Gives public_module (Run 0 1 ∷ started (codes "m") (codes "f") (number 7 ∷ []) ++ Run 0 5 ∷ [])
     (codes "idle" ∷ codes "ready []" ∷ codes "start 0 {m,f,[7]}" ∷ codes "ready [0]" ∷ codes "result 0 7" ∷ codes "exit 0 normal" ∷ codes "turn 0 0" ∷ codes "ready []" ∷ codes "idle" ∷ codes "ready []" ∷ [])
+
+-- the lines of a call that returns
+abbrev pub result_lines : List ℕ → List ℕ → List (List ℕ)
+result_lines call result = (codes "start 0 " ++ call) ∷ codes "ready [0]" ∷ (codes "result 0 " ++ result) ∷ codes "exit 0 normal" ∷ codes "turn 0 0" ∷ codes "ready []" ∷ []
+
+-- moves, of several functions of one module
+abbrev pub MovesRegisters : Type 0
+MovesRegisters = Gives moves_module (started (codes "m") (codes "f") (number 7 ∷ number 8 ∷ [])) (result_lines (codes "{m,f,[7,8]}") (codes "8"))
+
+abbrev pub MovesInteger : Type 0
+MovesInteger = Gives moves_module (started (codes "m") (codes "int") []) (result_lines (codes "{m,int,[]}") (codes "-9223372036854775808"))
+
+abbrev pub MovesAtom : Type 0
+MovesAtom = Gives moves_module (started (codes "m") (codes "atom") []) (result_lines (codes "{m,atom,[]}") (codes "int"))
+
+abbrev pub MovesNil : Type 0
+MovesNil = Gives moves_module (started (codes "m") (codes "nil") []) (result_lines (codes "{m,nil,[]}") (codes "[]"))
+
+-- a function that is reached where no call fits
+abbrev pub Refuses : Type 0
+Refuses = Gives moves_module (started (codes "m") (codes "no") (number 7 ∷ []))
+    (codes "start 0 {m,no,[7]}" ∷ codes "ready [0]" ∷ codes "raise 0 error function_clause" ∷ codes "exit 0 {function_clause,[]}" ∷ codes "turn 0 0" ∷ codes "ready []" ∷ [])
+
+-- of two functions of one name the one that is exported is called
+abbrev pub OtherExported : Type 0
+OtherExported = Gives moves_module (started (codes "m") (codes "f") (number 7 ∷ [])) (undefined_lines (codes "{m,f,[7]}"))

@@ -1,17 +1,23 @@
--- The writer's own types, as the classes, methods, entries and instructions of the definition.
-use Rattle.std.specs.Prelude.{ℕ, ◌+◌, ◌≤◌, ◌<◌, ◌^◌, List, [], ◌∷◌, length, map, None}
+-- The writer's own types, as the entries, instructions and methods of the definition.
+use Rattle.std.specs.Prelude.{◌≡◌, ℕ, ◌≤◌, ◌<◌, ◌^◌, ◌+◌, true, max, List, ◌++◌, length, None}
 use Rattle.std.specs.List.{AllByRecursion}
-use Rattle.erjang_top.specs.declared.emit.class.Class as written_class
+use Rattle.beam_code.specs.Opcode.{Value}
+use Rattle.beam_code.specs.declared.module.Function.{Function}
+use Rattle.beam_code.specs.declared.module.Module.{Module}
+use Rattle.beam_code.specs.Thin.{is_thin_module}
 use Rattle.erjang_top.specs.declared.emit.constant.Constant as written_constant
 use Rattle.erjang_top.specs.declared.emit.constant.Constant.TheVariants as entry
 use Rattle.erjang_top.specs.declared.emit.method.Method as written_method
 use Rattle.erjang_top.specs.declared.emit.op.Op as written_op
 use Rattle.erjang_top.specs.declared.emit.op.Op.TheVariants as instruction
-use Rattle.erjang_top.specs.ClassFile.{Constant, Gap, Utf8, ClassEntry, Methodref, NameAndType, Short, Op, IConst, ALoad, Invoke, IReturn, Method, Class, op_bytes, code_content}
+use Rattle.erjang_top.specs.ClassFile.{Constant, Utf8, Long, ClassEntry, StringEntry, Methodref, NameAndType, Op, IConst, SIPush, LdcW, Ldc2W, Invoke, IReturn, Method, u2, counted, code_content}
+use Rattle.erjang_top.specs.ModuleClass.{aload, astore, body, constants, first_name, function_ops, methods_of, placed, pool_of, registers}
 
 abbrev pub constant : written_constant.Constant → Constant
 constant (entry.Utf8 bytes) = Utf8 bytes.now
+constant (entry.Long value) = Long value
 constant (entry.Class name) = ClassEntry name
+constant (entry.String text) = StringEntry text
 constant (entry.Methodref class name_and_type) = Methodref class name_and_type
 constant (entry.NameAndType name descriptor) = NameAndType name descriptor
 
@@ -22,50 +28,43 @@ fits _ = Unit {0}
 
 abbrev pub op : written_op.Op → Op
 op (instruction.IConst value) = IConst value
-op (instruction.ALoad local) = ALoad Short local
+op (instruction.SIPush value) = SIPush value
+op (instruction.LdcW index) = LdcW index
+op (instruction.Ldc2W index) = Ldc2W index
+op (instruction.ALoad local) = aload local
+op (instruction.AStore local) = astore local
 op (instruction.InvokeStatic method) = Invoke method
 op instruction.IReturn = IReturn
 
--- the number or the local is one that an opcode has in it
+-- the number is one that an opcode has in it
 abbrev pub op_fits : written_op.Op → Type 0
 op_fits (instruction.IConst value) = value ≤ 5
-op_fits (instruction.ALoad local) = local ≤ 3
 op_fits _ = Unit {0}
 
--- instructions with their offsets, of which the first is this one
-abbrev pub placed : ℕ → List Op → List (ℕ × Op)
-placed at [] = []
-placed at (op ∷ ops) = (at, op) ∷ placed (at + length (op_bytes op)) ops
+-- the content of a method's attribute `Code`, with no exception table and no attributes
+abbrev pub content : written_method.Method → List ℕ
+content m = u2 m.max_stack ++ u2 m.max_locals ++ counted m.code.items ++ u2 0 ++ u2 0
 
-abbrev pub method : written_method.Method → Method
-method m = record {
-  flags = m.flags;
-  name = m.name;
-  descriptor = m.descriptor;
-  code_name = m.code_name;
-  max_stack = m.max_stack;
-  max_locals = m.max_locals;
-  code = placed 0 (map op m.code.items);
+-- the bytes of a method
+abbrev pub spelled : written_method.Method → List ℕ
+spelled m = u2 m.flags ++ u2 m.name ++ u2 m.descriptor ++ u2 1 ++ u2 m.code_name ++ counted (content m)
+
+-- a function's method with these flags, whose name is at this index
+abbrev pub method_with : ℕ → List Value → ℕ → Function → Method
+method_with flags values name f = record {
+  flags = flags;
+  name = name;
+  descriptor = 5;
+  code_name = 6;
+  max_stack = 3;
+  max_locals = 2 + max f.arity (registers (body f));
+  code = placed 0 (function_ops values f);
   maps = None;
 }
 
--- the content of its attribute has a length of four bytes
-pub record MethodFits (m : written_method.Method) : Type 0 where
-  pub ops : AllByRecursion op_fits m.code.items
-  pub content : length (code_content (method m)) < 2 ^ 32
-
-abbrev pub class : written_class.Class → Class
-class c = record {
-  flags = c.flags;
-  pool = Gap ∷ map constant c.pool.now;
-  this = c.this;
-  above = c.above;
-  methods = map method c.methods.now;
-}
-
--- its lists have counts of two bytes
-pub record ClassFits (c : written_class.Class) : Type 0 where
-  pub entry_count : length c.pool.now + 1 < 2 ^ 16
-  pub entries : AllByRecursion fits c.pool.now
-  pub method_count : length c.methods.now < 2 ^ 16
-  pub methods : AllByRecursion MethodFits c.methods.now
+-- A class that is written: its names and values are plain, and its lists and contents have counts that fit.
+pub record ClassFits (m : Module) : Type 0 where
+  pub plain : is_thin_module m ≡ true
+  pub entry_count : length (pool_of m) < 2 ^ 16
+  pub method_count : length m.functions < 2 ^ 16
+  pub contents : AllByRecursion (λ method. length (code_content method) < 2 ^ 32) (methods_of m (constants m) (first_name (constants m)) m.functions)

@@ -1,6 +1,8 @@
 //! The program: its words, what it does with files, and what it answers.
 #![tactic(auto)]
 
+mod accept;
+mod code;
 mod compile;
 mod emit;
 mod mangle;
@@ -10,6 +12,7 @@ mod scripts;
 mod source;
 #[cfg(test)]
 mod tests;
+mod values;
 mod words;
 
 pub use program::erjang;

@@ -13,15 +13,15 @@ const SOURCE: &str =
     "{module,m}.\n{exports,[{f,1}]}.\n{attributes,[]}.\n{labels,3}.\n{function,f,1,2}.\n{label,1}.\n{func_info,{atom,m},{atom,f},1}.\n{label,2}.\nreturn.\n";
 
 // Its class, spelled by another program and read by `javap -v`.
-const CLASS: [u8; 225] =
-    *b"\xca\xfe\xba\xbe\x00\x00\x002\x00\x12\x01\x00\x07erl/m/m\x07\x00\x01\x01\x00\x10java/lang/Object\x07\x00\x03\x01\x00\x0e(Lerl/Proc;I)I\x01\x00\x04Code\x01\x00\x06erl/Rt\x07\x00\x07\x01\x00\x04take\x01\x00\x17(Lerl/Proc;I)Lerl/Term;\x0c\x00\x09\x00\x0a\x0a\x00\x08\x00\x0b\x01\x00\x04give\x01\x00\x17(Lerl/Proc;Lerl/Term;)V\x0c\x00\x0d\x00\x0e\x0a\x00\x08\x00\x0f\x01\x00\x04f__1\x00!\x00\x02\x00\x04\x00\x00\x00\x00\x00\x01\x00\x09\x00\x11\x00\x05\x00\x01\x00\x06\x00\x00\x00\x17\x00\x03\x00\x02\x00\x00\x00\x0b**\x03\xb8\x00\x0c\xb8\x00\x10\x03\xac\x00\x00\x00\x00\x00\x00";
+const CLASS: [u8; 378] =
+    *b"\xca\xfe\xba\xbe\x00\x00\x002\x00 \x01\x00\x07erl/m/m\x07\x00\x01\x01\x00\x10java/lang/Object\x07\x00\x03\x01\x00\x0e(Lerl/Proc;I)I\x01\x00\x04Code\x01\x00\x06erl/Rt\x07\x00\x07\x01\x00\x04take\x01\x00\x17(Lerl/Proc;I)Lerl/Term;\x0c\x00\x09\x00\n\n\x00\x08\x00\x0b\x01\x00\x04give\x01\x00\x17(Lerl/Proc;Lerl/Term;)V\x0c\x00\x0d\x00\x0e\n\x00\x08\x00\x0f\x01\x00\x05raise\x01\x00\x18(Lerl/Proc;ILerl/Term;)V\x0c\x00\x11\x00\x12\n\x00\x08\x00\x13\x01\x00\x07integer\x01\x00\x0d(J)Lerl/Term;\x0c\x00\x15\x00\x16\n\x00\x08\x00\x17\x01\x00\x03lit\x01\x00\x1e(Ljava/lang/String;)Lerl/Term;\x0c\x00\x19\x00\x1a\n\x00\x08\x00\x1b\x08\x00\x1e\x01\x00\x0ffunction_clause\x01\x00\x04f__1\x00!\x00\x02\x00\x04\x00\x00\x00\x00\x00\x01\x00\x09\x00\x1f\x00\x05\x00\x01\x00\x06\x00\x00\x00\x19\x00\x03\x00\x03\x00\x00\x00\x0d*\x03\xb8\x00\x0cM*,\xb8\x00\x10\x03\xac\x00\x00\x00\x00\x00\x00";
 
-// A source whose names and numbers are at their edges, and its class, spelled likewise.
+// A source of several functions whose names, numbers and registers are at their edges, and its class, spelled likewise.
 const EDGE_SOURCE: &[u8] =
-    b"{module,a@b}.\n{exports,[]}.\n{attributes,[]}.\n{labels,4294967295}.\n{function,f_G9@,255,0}.\n{label,4294967295}.\n{line,[]}.\n{func_info,{atom,a@b},{atom,f_G9@},255}.\n{label,0}.\nreturn.\n";
+    b"{module,a@b}.\n{exports,[{g,0},{f,2},{f,2}]}.\n{attributes,[]}.\n{labels,4294967295}.\n{function,f,2,4}.\n{label,3}.\n{line,[]}.\n{func_info,{atom,a@b},{atom,f},2}.\n{label,4}.\n{move,{x,1},{x,1023}}.\n{label,9}.\n{line,[]}.\n{line,[]}.\n{move,{x,1023},{x,0}}.\nreturn.\n{move,nil,{x,0}}.\nreturn.\n{function,g,0,0}.\n{label,4294967295}.\n{func_info,{atom,a@b},{atom,g},0}.\n{label,0}.\n{move,{integer,-9223372036854775808},{x,0}}.\n{move,{integer,9223372036854775807},{x,1}}.\n{move,{integer,-1},{x,2}}.\n{move,{integer,0},{x,253}}.\n{move,{atom,f},{x,254}}.\n{move,{integer,-1},{x,3}}.\n{move,{x,253},{x,253}}.\n{move,nil,{x,255}}.\n{move,{atom,f},{x,1}}.\nreturn.\n{function,f_G9@,8,7}.\n{label,6}.\n{line,[]}.\n{func_info,{atom,a@b},{atom,f_G9@},8}.\n{label,7}.\n{func_info,{atom,other},{atom,a@b},4294967295}.\n{move,{x,1023},{x,0}}.\n";
 
 const EDGE_CLASS: &[u8] =
-    b"\xca\xfe\xba\xbe\x00\x00\x002\x00\x12\x01\x00\x0berl/m/a$40b\x07\x00\x01\x01\x00\x10java/lang/Object\x07\x00\x03\x01\x00\x0e(Lerl/Proc;I)I\x01\x00\x04Code\x01\x00\x06erl/Rt\x07\x00\x07\x01\x00\x04take\x01\x00\x17(Lerl/Proc;I)Lerl/Term;\x0c\x00\x09\x00\x0a\x0a\x00\x08\x00\x0b\x01\x00\x04give\x01\x00\x17(Lerl/Proc;Lerl/Term;)V\x0c\x00\x0d\x00\x0e\x0a\x00\x08\x00\x0f\x01\x00\x0cf_G9$40__255\x00!\x00\x02\x00\x04\x00\x00\x00\x00\x00\x01\x00\x0a\x00\x11\x00\x05\x00\x01\x00\x06\x00\x00\x00\x17\x00\x03\x00\x02\x00\x00\x00\x0b**\x03\xb8\x00\x0c\xb8\x00\x10\x03\xac\x00\x00\x00\x00\x00\x00";
+    b"\xca\xfe\xba\xbe\x00\x00\x002\x00.\x01\x00\x0berl/m/a$40b\x07\x00\x01\x01\x00\x10java/lang/Object\x07\x00\x03\x01\x00\x0e(Lerl/Proc;I)I\x01\x00\x04Code\x01\x00\x06erl/Rt\x07\x00\x07\x01\x00\x04take\x01\x00\x17(Lerl/Proc;I)Lerl/Term;\x0c\x00\x09\x00\n\n\x00\x08\x00\x0b\x01\x00\x04give\x01\x00\x17(Lerl/Proc;Lerl/Term;)V\x0c\x00\x0d\x00\x0e\n\x00\x08\x00\x0f\x01\x00\x05raise\x01\x00\x18(Lerl/Proc;ILerl/Term;)V\x0c\x00\x11\x00\x12\n\x00\x08\x00\x13\x01\x00\x07integer\x01\x00\x0d(J)Lerl/Term;\x0c\x00\x15\x00\x16\n\x00\x08\x00\x17\x01\x00\x03lit\x01\x00\x1e(Ljava/lang/String;)Lerl/Term;\x0c\x00\x19\x00\x1a\n\x00\x08\x00\x1b\x08\x00\x1e\x01\x00\x0ffunction_clause\x08\x00 \x01\x00\x02[]\x05\x80\x00\x00\x00\x00\x00\x00\x00\x05\x7f\xff\xff\xff\xff\xff\xff\xff\x05\xff\xff\xff\xff\xff\xff\xff\xff\x05\x00\x00\x00\x00\x00\x00\x00\x00\x08\x00*\x01\x00\x01f\x01\x00\x04f__2\x01\x00\x04g__0\x01\x00\nf_G9$40__8\x00!\x00\x02\x00\x04\x00\x00\x00\x00\x00\x03\x00\x09\x00+\x00\x05\x00\x01\x00\x06\x00\x00\x00)\x00\x03\x04\x02\x00\x00\x00\x1d*\x03\xb8\x00\x0cM*\x04\xb8\x00\x0cN-\xc4:\x04\x01\xc4\x19\x04\x01M*,\xb8\x00\x10\x03\xac\x00\x00\x00\x00\x00\x09\x00,\x00\x05\x00\x01\x00\x06\x00\x00\x00X\x00\x03\x01\x02\x00\x00\x00L\x14\x00!\xb8\x00\x18M\x14\x00#\xb8\x00\x18N\x14\x00%\xb8\x00\x18:\x04\x14\x00'\xb8\x00\x18:\xff\x13\x00)\xb8\x00\x1c\xc4:\x01\x00\x14\x00%\xb8\x00\x18:\x05\x19\xff:\xff\x13\x00\x1f\xb8\x00\x1c\xc4:\x01\x01\x13\x00)\xb8\x00\x1cN*,\xb8\x00\x10\x03\xac\x00\x00\x00\x00\x00\n\x00-\x00\x05\x00\x01\x00\x06\x00\x00\x00S\x00\x03\x00\n\x00\x00\x00G*\x03\xb8\x00\x0cM*\x04\xb8\x00\x0cN*\x05\xb8\x00\x0c:\x04*\x06\xb8\x00\x0c:\x05*\x07\xb8\x00\x0c:\x06*\x08\xb8\x00\x0c:\x07*\x11\x00\x06\xb8\x00\x0c:\x08*\x11\x00\x07\xb8\x00\x0c:\x09*\x03\x13\x00\x1d\xb8\x00\x1c\xb8\x00\x14\x07\xac\x00\x00\x00\x00\x00\x00";
 
 const USAGE: &[u8] =
     b"usage: erjang compile OUTDIR FILE... | beam SCRIPT FILE... | run SCRIPT CLASS... | verify CLASS... | sample N\n";
@@ -136,21 +136,23 @@ fn refuses_what_is_not_there(rt: HostRuntime) -> Result<(), Fail> {
 }
 
 #[test]
-fn refuses_what_is_not_built(rt: HostRuntime) -> Result<(), Fail> {
-    let sources: [&[u8]; 12] = [
+fn refuses_what_is_no_text_of_a_module(rt: HostRuntime) -> Result<(), Fail> {
+    let sources: [&[u8]; 14] = [
         b"",
         b"\xff",
         b"{module,m}.\n",
+        // no function
+        b"{module,m}.\n{exports,[]}.\n{attributes,[]}.\n{labels,3}.\n",
         // a space
         b"{module, m}.\n{exports,[{f,1}]}.\n{attributes,[]}.\n{labels,3}.\n{function,f,1,2}.\n{label,1}.\n{func_info,{atom,m},{atom,f},1}.\n{label,2}.\nreturn.\n",
-        // x1 holds nothing
-        b"{module,m}.\n{exports,[{f,1}]}.\n{attributes,[]}.\n{labels,3}.\n{function,f,1,2}.\n{label,1}.\n{func_info,{atom,m},{atom,f},1}.\n{label,2}.\n{move,{x,1},{x,0}}.\nreturn.\n",
-        // there is no argument to return
-        b"{module,m}.\n{exports,[{f,0}]}.\n{attributes,[]}.\n{labels,3}.\n{function,f,0,2}.\n{label,1}.\n{func_info,{atom,m},{atom,f},0}.\n{label,2}.\nreturn.\n",
-        // an export of no function
+        // an export of no function, of no function of that arity
         b"{module,m}.\n{exports,[{g,1}]}.\n{attributes,[]}.\n{labels,3}.\n{function,f,1,2}.\n{label,1}.\n{func_info,{atom,m},{atom,f},1}.\n{label,2}.\nreturn.\n",
-        // a label twice
+        b"{module,m}.\n{exports,[{f,2}]}.\n{attributes,[]}.\n{labels,3}.\n{function,f,1,2}.\n{label,1}.\n{func_info,{atom,m},{atom,f},1}.\n{label,2}.\nreturn.\n",
+        // a label twice, in one function and in two
         b"{module,m}.\n{exports,[{f,1}]}.\n{attributes,[]}.\n{labels,3}.\n{function,f,1,2}.\n{label,2}.\n{func_info,{atom,m},{atom,f},1}.\n{label,2}.\nreturn.\n",
+        b"{module,m}.\n{exports,[]}.\n{attributes,[]}.\n{labels,3}.\n{function,f,1,2}.\n{label,1}.\n{func_info,{atom,m},{atom,f},1}.\n{label,2}.\nreturn.\n{function,g,1,3}.\n{label,1}.\n{func_info,{atom,m},{atom,g},1}.\n{label,3}.\nreturn.\n",
+        // a function twice
+        b"{module,m}.\n{exports,[]}.\n{attributes,[]}.\n{labels,3}.\n{function,f,1,2}.\n{label,1}.\n{func_info,{atom,m},{atom,f},1}.\n{label,2}.\nreturn.\n{function,f,1,4}.\n{label,3}.\n{func_info,{atom,m},{atom,f},1}.\n{label,4}.\nreturn.\n",
         // another entry
         b"{module,m}.\n{exports,[{f,1}]}.\n{attributes,[]}.\n{labels,3}.\n{function,f,1,3}.\n{label,1}.\n{func_info,{atom,m},{atom,f},1}.\n{label,2}.\nreturn.\n",
         // a word that is reserved
@@ -167,6 +169,87 @@ fn refuses_what_is_not_built(rt: HostRuntime) -> Result<(), Fail> {
         let (front, _) = SOURCE.as_bytes().split_at(cut);
         expect_line(&rt, &["compile", "o", NAME], front, 1, b"m.S: not built\n")?;
     }
+    Ok(())
+}
+
+// The lines before the instructions of a function f/1 of the module m, behind its entry label.
+const HEAD: &str =
+    "{module,m}.\n{exports,[{f,1}]}.\n{attributes,[]}.\n{labels,9}.\n{function,f,1,2}.\n{label,1}.\n{func_info,{atom,m},{atom,f},1}.\n{label,2}.\n";
+
+// The status for that function of these instructions, a line each, and so many more of one behind them.
+fn status_of(
+    alloc: Global,
+    instructions: &str,
+    more: usize,
+    instruction: &str,
+) -> Result<u8, AllocError> {
+    let mut source = String::from_str(alloc, HEAD)?;
+    source.push_str(instructions)?;
+    for _at in 0..more {
+        source.push_str(instruction)?;
+    }
+    let words = ["compile", "o", NAME];
+    Ok(run(alloc, &words, source.as_bytes(), Vec::new(alloc))?.status)
+}
+
+#[test]
+fn compiles_what_holds_its_terms(rt: HostRuntime) -> Result<(), Fail> {
+    let bodies: [(&str, u8); 22] = [
+        ("return.\n", 0),
+        ("", 1),
+        // what is read holds a term
+        ("{move,{x,1},{x,0}}.\nreturn.\n", 1),
+        ("{move,{x,0},{x,1}}.\n{move,{x,1},{x,0}}.\nreturn.\n", 0),
+        ("{move,{x,0},{x,1}}.\n{move,{x,2},{x,0}}.\nreturn.\n", 1),
+        (
+            "{move,nil,{x,1}}.\n{label,3}.\n{line,[]}.\n{move,{x,1},{x,7}}.\n{move,{x,7},{x,0}}.\nreturn.\n",
+            0,
+        ),
+        // what is not reached is not looked at, but for its form
+        ("return.\n{move,{x,5},{x,0}}.\nreturn.\n", 0),
+        ("{func_info,{atom,n},{atom,g},7}.\n{move,{x,5},{x,0}}.\n", 0),
+        ("return.\n{move,{x,5}}.\n", 1),
+        // it runs off its end
+        ("{move,{x,0},{x,1}}.\n", 1),
+        ("{label,3}.\n", 1),
+        // a label twice, behind the end too
+        ("return.\n{label,2}.\nreturn.\n", 1),
+        ("return.\n{label,3}.\n{label,4}.\nreturn.\n", 0),
+        // registers and integers at their ends and past them
+        (
+            "{move,{x,0},{x,1023}}.\n{move,{x,1023},{x,0}}.\nreturn.\n",
+            0,
+        ),
+        ("{move,{x,0},{x,1024}}.\nreturn.\n", 1),
+        ("{move,{integer,9223372036854775807},{x,0}}.\nreturn.\n", 0),
+        ("{move,{integer,9223372036854775808},{x,0}}.\nreturn.\n", 1),
+        ("{move,{integer,-9223372036854775808},{x,0}}.\nreturn.\n", 0),
+        ("{move,{integer,-9223372036854775809},{x,0}}.\nreturn.\n", 1),
+        // no integer, no plain atom, and no x register
+        ("{move,{integer,-0},{x,0}}.\nreturn.\n", 1),
+        ("{move,{atom,end},{x,0}}.\nreturn.\n", 1),
+        ("{move,{y,0},{x,0}}.\nreturn.\n", 1),
+    ];
+    for (instructions, status) in bodies {
+        let ended = status_of(rt.alloc(), instructions, 0, "")?;
+        assert_eq!(rt; ended, status, "{instructions}");
+    }
+    Ok(())
+}
+
+// A function of one argument weighs 64, 12 and 32 for its `func_info`; each weight of these instructions is even.
+#[test]
+fn weighs_a_function(rt: HostRuntime) -> Result<(), Fail> {
+    let alloc = rt.alloc();
+    let two = "{func_info,{atom,m},{atom,g},1}.\nreturn.\nreturn.\n";
+    // 108, 64 and 3,259 moves of 10 are 32,762
+    assert_eq!(rt; status_of(alloc, two, 3259, "{move,nil,{x,0}}.\n")?, 0);
+    // and one more 32,772
+    assert_eq!(rt; status_of(alloc, two, 3260, "{move,nil,{x,0}}.\n")?, 1);
+    let four = "return.\nreturn.\nreturn.\nreturn.\n";
+    // 108, 64 and 2,037 returns of 16 are 32,764; 2,038 are 32,780
+    assert_eq!(rt; status_of(alloc, four, 2037, "return.\n")?, 0);
+    assert_eq!(rt; status_of(alloc, four, 2038, "return.\n")?, 1);
     Ok(())
 }
 
@@ -188,7 +271,7 @@ fn leaves_half_where_the_put_failed(rt: HostRuntime) -> Result<(), Fail> {
     let ran = run(alloc, &["compile", "o", NAME], SOURCE.as_bytes(), fails)?;
     assert_eq!(rt; ran.status, 4);
     assert!(rt; ran.err.taken().is_empty() && ran.out.taken().is_empty());
-    let (half, _) = CLASS.split_at(112);
+    let (half, _) = CLASS.split_at(189);
     assert_eq!(rt; ran.shelf.held("o/m.class"), Some(half));
     assert_eq!(rt; ran.shelf.held(NAME), Some(SOURCE.as_bytes()));
     Ok(())

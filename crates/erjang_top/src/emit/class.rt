@@ -1,12 +1,15 @@
 //! Writes a class (JVMS SE 7, 4.1).
 
 ghost use Rattle.std.specs.Prelude.{◌≡◌, ◌++◌, OnOk, IfOk};
-ghost use Rattle.erjang_top.specs.ClassFile.{class_bytes};
-ghost use Rattle.erjang_top.specs.Written.{class, ClassFits};
+ghost use Rattle.erjang_top.specs.ClassFile.{u2, u4, class_bytes};
+ghost use Rattle.erjang_top.specs.ModuleClass.{class_of};
+ghost use Rattle.erjang_top.specs.Written.{ClassFits};
 
 use super::bytes::{push_u2, push_u4};
-use super::constant::{Constant, push_constants};
-use super::method::{Method, push_methods};
+use super::function::push_functions;
+use super::pool::{CLASS, OBJECT, push_pool};
+use crate::values::distinct_values;
+use beam_code::Module;
 use std::alloc::{AllocError, Global};
 
 const MAGIC: u32 = 0xCAFE_BABE;
@@ -15,35 +18,41 @@ const MINOR_VERSION: u16 = 0;
 
 const MAJOR_VERSION: u16 = 50;
 
-/// A class, with the entries of its constant pool from index 1 on, and the indices of its own name's entry and
-/// its superclass's.
-#[derive(Clone, Copy)]
-pub struct Class<'a, 'b> {
-    pub flags: u16,
-    pub pool: &'a [Constant<'b>],
-    pub this: u16,
-    pub above: u16,
-    pub methods: &'a [Method],
-}
+const ACC_PUBLIC: u16 = 0x0001;
 
-/// The bytes of a class, which has no interfaces, fields or attributes of its own.
-pub fn write_class(alloc: Global, written: &Class) -> Result<Vec<u8>, AllocError>
-    requires { ClassFits written.now }
-    ensures { IfOk result (λ bytes. bytes.items ≡ class_bytes (class written.now)) }
+const ACC_SUPER: u16 = 0x0020;
+
+/// The bytes of a module's class, which has no interfaces, fields or attributes of its own.
+pub fn write_class(alloc: Global, source: &Module) -> Result<Vec<u8>, AllocError>
+    requires { ClassFits source.now }
+    ensures { IfOk result (λ class. class.items ≡ class_bytes (class_of source.now)) }
 {
+    let values = distinct_values(alloc, source.functions.as_slice())?;
     let mut out = Vec::new(alloc);
-    push_u4(&mut out, MAGIC)?;
-    push_u2(&mut out, MINOR_VERSION)?;
-    push_u2(&mut out, MAJOR_VERSION)?;
-    push_u2(&mut out, written.pool.len() as u16 + 1)?;
-    push_constants(&mut out, written.pool)?;
-    push_u2(&mut out, written.flags)?;
-    push_u2(&mut out, written.this)?;
-    push_u2(&mut out, written.above)?;
-    push_u2(&mut out, 0)?;
-    push_u2(&mut out, 0)?;
-    push_u2(&mut out, written.methods.len() as u16)?;
-    push_methods(alloc, &mut out, written.methods)?;
+    push_version(&mut out)?;
+    push_pool(alloc, &mut out, source, &values)?;
+    push_names(&mut out)?;
+    push_functions(alloc, &mut out, source, &values)?;
     push_u2(&mut out, 0)?;
     Ok(out)
+}
+
+/// Appends the magic number and the version.
+fn push_version(out: &mut Vec<u8>) -> Result<(), AllocError>
+    ensures { OnOk result (out.new.items ≡ out.old.items ++ (u4 0xCAFEBABE ++ u2 0 ++ u2 50)) }
+{
+    push_u4(out, MAGIC)?;
+    push_u2(out, MINOR_VERSION)?;
+    push_u2(out, MAJOR_VERSION)
+}
+
+/// Appends the flags, the class and its superclass, no interfaces and no fields.
+fn push_names(out: &mut Vec<u8>) -> Result<(), AllocError>
+    ensures { OnOk result (out.new.items ≡ out.old.items ++ u2 0x0021 ++ u2 2 ++ u2 4 ++ u2 0 ++ u2 0) }
+{
+    push_u2(out, ACC_PUBLIC + ACC_SUPER)?;
+    push_u2(out, CLASS)?;
+    push_u2(out, OBJECT)?;
+    push_u2(out, 0)?;
+    push_u2(out, 0)
 }

@@ -10,7 +10,11 @@ use std::alloc::AllocError;
 
 const TAG_UTF8: u8 = 1;
 
+const TAG_LONG: u8 = 5;
+
 const TAG_CLASS: u8 = 7;
+
+const TAG_STRING: u8 = 8;
 
 const TAG_METHODREF: u8 = 10;
 
@@ -20,7 +24,10 @@ const TAG_NAME_AND_TYPE: u8 = 12;
 #[derive(Clone, Copy)]
 pub enum Constant<'a> {
     Utf8(&'a [u8]),
+    /// It takes two indices.
+    Long(i64),
     Class(u16),
+    String(u16),
     Methodref(u16, u16),
     NameAndType(u16, u16),
 }
@@ -36,9 +43,17 @@ pub fn push_constant(out: &mut Vec<u8>, entry: &Constant) -> Result<(), AllocErr
             push_u2(out, bytes.len() as u16)?;
             out.extend_from_slice(bytes)
         }
+        Constant::Long(value) => {
+            out.push(TAG_LONG)?;
+            out.extend_from_slice(&value.to_be_bytes())
+        }
         Constant::Class(name) => {
             out.push(TAG_CLASS)?;
             push_u2(out, *name)
+        }
+        Constant::String(text) => {
+            out.push(TAG_STRING)?;
+            push_u2(out, *text)
         }
         Constant::Methodref(class, name_and_type) => {
             out.push(TAG_METHODREF)?;

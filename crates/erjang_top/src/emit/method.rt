@@ -1,12 +1,9 @@
 //! Writes methods (JVMS SE 7, 4.6 and 4.7.3).
 
-ghost use Rattle.std.specs.Prelude.{◌≡◌, ◌++◌, map, OnOk, IfOk};
-ghost use Rattle.std.specs.List.{flat_map, AllByRecursion};
-ghost use Rattle.erjang_top.specs.ClassFile.{code_content, method_bytes};
-ghost use Rattle.erjang_top.specs.Written.{method, MethodFits};
+ghost use Rattle.std.specs.Prelude.{◌≡◌, ◌++◌, ◌<◌, ◌^◌, length, OnOk, IfOk};
+ghost use Rattle.erjang_top.specs.Written.{content, spelled};
 
 use super::bytes::{push_counted, push_u2};
-use super::op::{Op, push_ops};
 use std::alloc::{AllocError, Global};
 
 /// A method, with the indices of its entries in the constant pool.
@@ -19,13 +16,14 @@ pub struct Method {
     pub code_name: u16,
     pub max_stack: u16,
     pub max_locals: u16,
-    pub code: Vec<Op>,
+    /// The code array.
+    pub code: Vec<u8>,
 }
 
 /// Appends a method.
 pub fn push_method(alloc: Global, out: &mut Vec<u8>, written: &Method) -> Result<(), AllocError>
-    requires { MethodFits written.now }
-    ensures { OnOk result (out.new.items ≡ out.old.items ++ method_bytes (method written.now)) }
+    requires { length (content written.now) < 2 ^ 32 }
+    ensures { OnOk result (out.new.items ≡ out.old.items ++ spelled written.now) }
 {
     push_u2(out, written.flags)?;
     push_u2(out, written.name)?;
@@ -39,27 +37,14 @@ pub fn push_method(alloc: Global, out: &mut Vec<u8>, written: &Method) -> Result
 
 /// The content of the attribute `Code`: no exception table, and no attributes of its own.
 fn code_content(alloc: Global, written: &Method) -> Result<Vec<u8>, AllocError>
-    requires { MethodFits written.now }
-    ensures { IfOk result (λ content. content.items ≡ code_content (method written.now)) }
+    requires { length (content written.now) < 2 ^ 32 }
+    ensures { IfOk result (λ bytes. bytes.items ≡ content written.now) }
 {
-    let mut code = Vec::new(alloc);
-    push_ops(&mut code, &written.code)?;
     let mut content = Vec::new(alloc);
     push_u2(&mut content, written.max_stack)?;
     push_u2(&mut content, written.max_locals)?;
-    push_counted(&mut content, &code)?;
+    push_counted(&mut content, &written.code)?;
     push_u2(&mut content, 0)?;
     push_u2(&mut content, 0)?;
     Ok(content)
-}
-
-/// Appends methods one after the other.
-pub fn push_methods(alloc: Global, out: &mut Vec<u8>, methods: &[Method]) -> Result<(), AllocError>
-    requires { AllByRecursion MethodFits methods.now }
-    ensures { OnOk result (out.new.items ≡ out.old.items ++ flat_map method_bytes (map method methods.now)) }
-{
-    for written in methods {
-        push_method(alloc, out, written)?;
-    }
-    Ok(())
 }

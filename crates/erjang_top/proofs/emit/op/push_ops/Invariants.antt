@@ -6,6 +6,6 @@ use Rattle.erjang_top.proofs.emit.op.push_ops.Given as goal
 
 abbrev pub invariant-loop-instruction : goal.invariant-loop-instruction
 invariant-loop-instruction l = record {
-  rest_fits : AllByRecursion op_fits (drop l.instruction-index l.code);
-  written : l.out.items ++ flat_map op_bytes (map op (drop l.instruction-index l.code)) ≡ l.initial.out.items ++ flat_map op_bytes (map op l.code);
+  rest_fits : AllByRecursion op_fits (drop l.instruction-index l.instructions);
+  written : l.code.items ++ flat_map op_bytes (map op (drop l.instruction-index l.instructions)) ≡ l.initial.code.items ++ flat_map op_bytes (map op l.instructions);
 }

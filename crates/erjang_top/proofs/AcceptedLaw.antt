@@ -1,0 +1,57 @@
+-- A module is accepted where each check passes.
+use Rattle.std.proofs.Common.{◌≡◌, ◌↔◌, IsTrue, Bool, true, false, nat_lt, length, ◌&&◌, List, [], ◌∷◌, Result, Ok, Err, IfOk, refl, sym, ◌∙◌}
+use Rattle.std.specs.List.{list_all, filter_map, AllByRecursion}
+use Rattle.std.proofs.lemmas.Bool.{and_parts, true≢false}
+use Rattle.beam_code.specs.declared.module.Function.{Function}
+use Rattle.beam_code.specs.declared.module.Module.{Module}
+use Rattle.beam_code.specs.LabelRules.{opcodes, defined_label, no_label_twice, begins_well, labels_of, meets_label_rules}
+use Rattle.beam_code.specs.Slots.{WellSlotted}
+use Rattle.beam_code.specs.Thin.{is_thin_function, is_thin_name, is_thin_module, Accepted}
+use Rattle.beam_code.specs.Weights.{fits}
+use Rattle.erjang_top.specs.LabelChecks.{labels_in}
+use Rattle.erjang_top.specs.SlotCheck.{passes, labels_differ}
+use Rattle.erjang_top.proofs.NoTwice.{label-front, label-back}
+use Rattle.erjang_top.proofs.SlotsPass.{good-passes}
+use Rattle.erjang_top.proofs.SlotsGood.{passes-good}
+
+each-differs : (fs : List Function) → no_label_twice (labels_in fs) ≡ true → list_all labels_differ fs ≡ true
+each-differs [] e = refl
+each-differs (f ∷ fs) e = by (labels_differ f) refl (each-differs fs (label-back (filter_map defined_label (opcodes f)) (labels_in fs) e))
+  where
+    by : (b : Bool) → labels_differ f ≡ b → list_all labels_differ fs ≡ true → list_all labels_differ (f ∷ fs) ≡ true
+    by true h rest = rw (h, rest) refl
+    by false h rest = absurd (true≢false (sym e ∙ label-front (filter_map defined_label (opcodes f)) (labels_in fs) h))
+
+all-pass : (fs : List Function) → AllByRecursion WellSlotted fs → list_all passes fs ≡ true
+all-pass [] h = refl
+all-pass (f ∷ fs) h = rw (good-passes f h.0, all-pass fs h.1) refl
+
+all-good : (fs : List Function) → list_all labels_differ fs ≡ true → list_all passes fs ≡ true → AllByRecursion WellSlotted fs
+all-good [] d e = tt
+all-good (f ∷ fs) d e =
+    let p = and_parts (labels_differ f) (list_all labels_differ fs) d in
+    let q = and_parts (passes f) (list_all passes fs) e in
+    (passes-good f p.0 q.0, all-good fs p.1 q.1)
+
+-- a check that each accepted module passes, and this one does not
+pub refused : (m : Module) (b : Bool) → (Accepted m → b ≡ true) → b ≡ false → IsTrue false ↔ Accepted m
+refused m b passes fails = (λ e. absurd (true≢false (sym e)), λ a. sym fails ∙ passes a)
+
+pub slots-pass : (m : Module) → Accepted m → list_all passes m.functions ≡ true
+slots-pass m a = all-pass m.functions a.slots
+
+-- the functions of a module that is plain are in range
+pub functions-plain : (m : Module) → is_thin_module m ≡ true → list_all is_thin_function m.functions ≡ true
+functions-plain m e = (and_parts (is_thin_name m.name && nat_lt 0 (length m.functions)) (list_all is_thin_function m.functions) e).1
+
+-- all but the weights are as they should be
+pub decided : (m : Module) (b : Bool) → is_thin_module m ≡ true → meets_label_rules m ≡ true → list_all passes m.functions ≡ true → b ≡ fits m → IsTrue b ↔ Accepted m
+decided m b plain rules slots e = (λ h. record { plain = plain; label_rules = rules; slots = well; sizes = sym e ∙ h }, λ a. e ∙ a.sizes)
+  where
+    well : AllByRecursion WellSlotted m.functions
+    well = all-good m.functions (each-differs m.functions (and_parts (list_all (begins_well m.name) m.functions) (no_label_twice (labels_of m)) rules).1) slots
+
+pub all-decided : {E : Type 0} (m : Module) (result : Result Bool E) → is_thin_module m ≡ true → meets_label_rules m ≡ true → list_all passes m.functions ≡ true
+    → IfOk result (λ yes. yes ≡ fits m) → IfOk result (λ yes. IsTrue yes ↔ Accepted m)
+all-decided m (Ok b) plain rules slots e = decided m b plain rules slots e
+all-decided m (Err error) plain rules slots e = tt
