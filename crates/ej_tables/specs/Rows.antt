@@ -31,10 +31,6 @@ are_distinct (entry ∷ entries) = list_all (differs entry) entries && are_disti
 abbrev pub number_of : List ℕ → ℕ → List Entry → Option ℕ
 number_of name arity entries = option_map (λ (entry : Entry). entry.number) (find (is_named name arity) entries)
 
--- the row of that number
-abbrev pub entry_of : ℕ → List Entry → Option Entry
-entry_of number entries = find (has_number number) entries
-
 -- a row is the one that its name and arity are looked up to, and the one that its number is
 pub record IsFound (entries : List Entry) (entry : Entry) : Type 0 where
   pub by_name : find (is_named entry.name entry.arity) entries ≡ Some entry

@@ -1,9 +1,10 @@
 //! Tables of names with numbers.
 
 ghost use Rattle.std.specs.Prelude.{◌≡◌, ◌*◌, ◌<◌, ◌^◌, List, map, true};
+ghost use Rattle.std.specs.List.{find};
 ghost use Rattle.std.specs.Option.{option_map};
 ghost use Rattle.std.specs.Mem.{type_size};
-ghost use Rattle.ej_tables.specs.Rows.{Entry, FindsEach, are_distinct, is_named, number_of, entry_of};
+ghost use Rattle.ej_tables.specs.Rows.{FindsEach, are_distinct, has_number, is_named, number_of};
 
 use std::marker::Model;
 
@@ -53,12 +54,11 @@ pub struct TableOf<R: Numbered + 'static, const N: usize> {
 }
 
 impl<R: Numbered, const N: usize> Model for TableOf<R, N> {
-    ghost use Rattle.std.specs.Prelude.{List, map};
-    ghost use Rattle.ej_tables.specs.Rows.{Entry};
+    ghost use Rattle.std.specs.Prelude.{List};
 
-    ghost Value = { List Entry };
+    ghost Value = { List R };
 
-    ghost view = { λ table. map R.entry table.rows.now };
+    ghost view = { λ table. table.rows.now };
 }
 
 /// A table of rows.
@@ -70,7 +70,7 @@ impl<R: Numbered, const N: usize> TableOf<R, N> {
     pub fn new(rows: &'static [R; N]) -> TableOf<R, N>
         requires distinct { are_distinct (map R.entry rows.now) ≡ true }
         requires in_memory { N * type_size R.row < 2 ^ 63 }
-        ensures rows { result ≡ map R.entry rows.now }
+        ensures rows { result ≡ rows.now }
         ensures finds_each { FindsEach (map R.entry rows.now) }
     {
         TableOf { rows }
@@ -78,7 +78,7 @@ impl<R: Numbered, const N: usize> TableOf<R, N> {
 
     /// The number of the row of that name, as UTF-8 bytes, and that arity. None where no row has them.
     pub fn find(&self, name: &[u8], arity: u8) -> Option<u16>
-        ensures { result ≡ number_of name.now arity self.now }
+        ensures { result ≡ number_of name.now arity (map R.entry self.now) }
     {
         let rows = self.rows;
         find_named(rows, name, arity)
@@ -86,7 +86,7 @@ impl<R: Numbered, const N: usize> TableOf<R, N> {
 
     /// The row of that number. None where no row has it.
     pub fn by_number(&self, number: u16) -> Option<&R>
-        ensures { option_map (λ row. R.entry row.now) result ≡ entry_of number self.now }
+        ensures { option_map (λ row. row.now) result ≡ find (λ row. has_number number (R.entry row)) self.now }
     {
         let rows = self.rows;
         find_numbered(rows, number)
@@ -107,7 +107,7 @@ fn find_named<R: Numbered>(rows: &[R], name: &[u8], arity: u8) -> Option<u16>
 
 // The row of that number.
 fn find_numbered<R: Numbered>(rows: &[R], number: u16) -> Option<&R>
-    ensures { option_map (λ row. R.entry row.now) result ≡ entry_of number (map R.entry rows.now) }
+    ensures { option_map (λ row. row.now) result ≡ find (λ row. has_number number (R.entry row)) rows.now }
 {
     for row in rows {
         if row.number() == number {

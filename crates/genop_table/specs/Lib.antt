@@ -1,0 +1,4 @@
+pub mod Builtins
+pub mod InstructionRows
+pub mod Instructions
+pub mod Tests

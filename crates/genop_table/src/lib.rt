@@ -1,0 +1,15 @@
+//! The tables of the profile: the instructions of BEAM code, the tests and the builtin functions, each with its
+//! number (OTP 24, `genop.tab`, `bif.tab`).
+//!
+//! The tables are data: a row is added at one place, and what differs between rows stands in the row. That no two
+//! rows have the same name and arity, or the same number, is proved over each whole table, so a look-up is exact
+//! over all names.
+#![tactic(auto)]
+
+pub mod builtins;
+pub mod instructions;
+pub mod tests;
+
+pub use builtins::{builtin, guard, returns};
+pub use instructions::{InstructionRow, Part, instruction, shape};
+pub use tests::test;
