@@ -3,7 +3,7 @@ use Rattle.std.specs.Prelude.{ℕ, pos, List, [], ◌∷◌, ◌++◌, map, code
 use Rattle.std.specs.List.{flat_map}
 use Rattle.ej_term.specs.declared.asm_term.AsmTerm.{AsmTerm}
 use Rattle.ej_term.specs.declared.asm_term.AsmTerm.TheVariants as term
-use Rattle.ej_term.specs.Print.{print}
+use Rattle.ej_term.specs.ThinPrint.{print}
 use Rattle.beam_code.specs.declared.instr.Instr.{Instr}
 use Rattle.beam_code.specs.declared.module.Function.{Function}
 use Rattle.beam_code.specs.declared.module.Module.{Module}

@@ -1,2 +1,12 @@
 pub mod TextLemmas
+pub mod ThinPrintLemmas
+pub mod OrderCode
+pub mod OrderLaws
+pub mod ValueLemmas
+pub mod PrintLaw
+pub mod Options
 pub mod PrintLemmas
+pub mod WorkedPrints
+pub mod MapLaws
+pub mod OpaqueLaw
+pub mod OpaqueLemmas

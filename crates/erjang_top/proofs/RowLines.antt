@@ -2,8 +2,8 @@
 use Rattle.std.proofs.Common.{◌≡◌, ℕ, List, [], ◌∷◌, ◌++◌, map, codes, ap, sym, ◌∙◌, append_assoc, append-nil}
 use Rattle.std.specs.Prelude.{ℤ}
 use Rattle.std.specs.Fmt.{decimal, signed_decimal}
-use Rattle.ej_term.specs.Print.{print, with_commas}
-use Rattle.ej_term.proofs.PrintLemmas.{print_cases}
+use Rattle.ej_term.specs.ThinPrint.{print, with_commas}
+use Rattle.ej_term.proofs.ThinPrintLemmas.{print_cases}
 use Rattle.beam_code.specs.Forms.{export_form}
 use Rattle.beam_code.specs.Keys.{Key}
 use Rattle.erjang_top.specs.declared.source.form.Form.TheVariants as form

@@ -2,7 +2,7 @@
 use Rattle.std.proofs.Common.{◌≡◌, ℕ, true, nat_le, ◌&&◌, List, [], ◌∷◌, ◌++◌, map, codes, refl, sym, ap, ◌∙◌, append_assoc, append-nil}
 use Rattle.std.specs.Fmt.{decimal, signed_decimal}
 use Rattle.std.specs.List.{list_all, flat_map}
-use Rattle.ej_term.specs.Print.{print}
+use Rattle.ej_term.specs.ThinPrint.{print}
 use Rattle.beam_code.specs.Forms.{export_form}
 use Rattle.beam_code.specs.Keys.{Key}
 use Rattle.beam_code.specs.Thin.{is_thin_name, is_count, is_register}

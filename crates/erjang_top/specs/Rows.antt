@@ -4,7 +4,7 @@ use Rattle.std.specs.Fmt.{decimal, signed_decimal}
 use Rattle.std.specs.List.{list_all, flat_map}
 use Rattle.ej_term.specs.declared.asm_term.AsmTerm.{AsmTerm}
 use Rattle.ej_term.specs.declared.asm_term.AsmTerm.TheVariants as term
-use Rattle.ej_term.specs.Print.{print}
+use Rattle.ej_term.specs.ThinPrint.{print}
 use Rattle.beam_code.specs.declared.module.Function.{Function}
 use Rattle.beam_code.specs.Forms.{number, list, tagged, x_form, export_form, opcode, line_of}
 use Rattle.beam_code.specs.Keys.{Key}

@@ -3,7 +3,7 @@
 
 ghost use Rattle.std.specs.Prelude.{◌≡◌, ◌++◌, IfOk, OnOk, string_bytes, true, codes, map};
 ghost use Rattle.std.specs.List.{flat_map, list_all};
-ghost use Rattle.ej_term.specs.Print.{print, with_commas};
+ghost use Rattle.ej_term.specs.ThinPrint.{print, with_commas};
 ghost use Rattle.beam_code.specs.Forms.{export_form};
 ghost use Rattle.beam_code.specs.Thin.{is_thin_name as thin_name};
 ghost use Rattle.erjang_top.specs.Rows.{behind_first, row_line, is_plain_form, is_plain_source, source_term};
