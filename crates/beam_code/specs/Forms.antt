@@ -1,12 +1,10 @@
--- The row of forms of a module, and its text: each form in canonical print, a full stop and a newline.
-use Rattle.std.specs.Prelude.{ℕ, pos, List, [], ◌∷◌, ◌++◌, map, codes, None}
+-- The row of forms of a module.
+use Rattle.std.specs.Prelude.{ℕ, pos, List, [], ◌∷◌, map, codes, None}
 use Rattle.std.specs.List.{flat_map}
 use Rattle.ej_term.specs.declared.asm_term.AsmTerm.{AsmTerm}
 use Rattle.ej_term.specs.declared.asm_term.AsmTerm.TheVariants as term
-use Rattle.ej_term.specs.ThinPrint.{print}
 use Rattle.beam_code.specs.declared.instr.Instr.{Instr}
 use Rattle.beam_code.specs.declared.module.Function.{Function}
-use Rattle.beam_code.specs.declared.module.Module.{Module}
 use Rattle.beam_code.specs.Keys.{Key}
 use Rattle.beam_code.specs.Opcode.{Integer, Atom, Nil, Source, X, Of, Opcode, Label, Line, FuncInfo, Move, Return, Unknown, opcode_of}
 
@@ -62,15 +60,3 @@ forms_of labels name exports functions =
     ∷ tagged (codes "attributes") (list [] ∷ [])
     ∷ tagged (codes "labels") (number labels ∷ [])
     ∷ flat_map function_forms functions
-
--- a form as a line of text
-abbrev pub line_of : AsmTerm → List ℕ
-line_of form = print form ++ codes "." ++ 10 ∷ []
-
--- the text of a module of that name, exports and functions
-abbrev pub text_of : ℕ → List ℕ → List Key → List Function → List ℕ
-text_of labels name exports functions = flat_map line_of (forms_of labels name exports functions)
-
--- the text of a module
-abbrev pub text : ℕ → Module → List ℕ
-text labels m = text_of labels m.name m.exports m.functions

@@ -4,5 +4,5 @@ pub mod Forms
 pub mod LabelRules
 pub mod Slots
 pub mod Weights
-pub mod Thin
+pub mod Accepted
 pub mod Turn

@@ -1,6 +1,5 @@
 -- The instruction that a row of the instruction table and its operands stand for (OTP 24, `genop.tab`).
-use Rattle.std.specs.Prelude.{ℕ, ℤ, Bool, true, false, nat_eq, if◌then◌else◌, List, [], ◌∷◌, Option, None, Some, unwrap_or}
-use Rattle.std.specs.Option.{option_map}
+use Rattle.std.specs.Prelude.{ℕ, ℤ, Bool, true, false, nat_eq, if◌then◌else◌, List, [], ◌∷◌, Option, None, Some}
 use Rattle.beam_code.specs.declared.operand.Operand.{Operand}
 use Rattle.beam_code.specs.declared.operand.Operand.TheVariants as operand
 use Rattle.beam_code.specs.declared.operand.Reg.TheVariants as register

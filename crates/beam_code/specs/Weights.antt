@@ -1,13 +1,13 @@
 -- What a function and a module's constants weigh: upper bounds on the bytes and the entries of the class that is made
 -- of them.
-use Rattle.std.specs.Prelude.{ℕ, ℤ, ◌+◌, ◌*◌, Bool, true, false, nat_eq, nat_le, ◌&&◌, if◌then◌else◌, List, [], ◌∷◌, ◌++◌, fold, length, map, sum, Option, None, Some}
+use Rattle.std.specs.Prelude.{ℕ, ◌+◌, ◌*◌, Bool, true, false, nat_le, ◌&&◌, if◌then◌else◌, List, [], ◌∷◌, ◌++◌, fold, length, map, sum, Option, None, Some}
 use Rattle.std.specs.Ordering.{int_eq}
 use Rattle.std.specs.List.{list_any, list_all, filter_map, flat_map}
 use Rattle.std.specs.Str.{bytes_eq}
 use Rattle.beam_code.specs.declared.module.Function.{Function}
 use Rattle.beam_code.specs.declared.module.Module.{Module}
 use Rattle.beam_code.specs.LabelRules.{opcodes}
-use Rattle.beam_code.specs.Opcode.{Value, Integer, Atom, Nil, X, Of, Opcode, Label, Line, FuncInfo, Move, Return, Unknown}
+use Rattle.beam_code.specs.Opcode.{Value, Integer, Atom, Nil, Of, Opcode, Label, Line, FuncInfo, Move, Return, Unknown}
 
 abbrev pub instruction_weight : Opcode → ℕ
 instruction_weight (Label n) = 0

@@ -1,5 +1,4 @@
 pub mod TextLemmas
-pub mod ThinPrintLemmas
 pub mod OrderCode
 pub mod OrderLaws
 pub mod ValueLemmas

@@ -1,7 +1,6 @@
 pub mod Term
 pub mod Atoms
 pub mod Order
-pub mod ThinPrint
 pub mod TermPrint
 pub mod Outcome
 pub mod Tests

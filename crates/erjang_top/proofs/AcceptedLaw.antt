@@ -6,7 +6,7 @@ use Rattle.beam_code.specs.declared.module.Function.{Function}
 use Rattle.beam_code.specs.declared.module.Module.{Module}
 use Rattle.beam_code.specs.LabelRules.{opcodes, defined_label, no_label_twice, begins_well, labels_of, meets_label_rules}
 use Rattle.beam_code.specs.Slots.{WellSlotted}
-use Rattle.beam_code.specs.Thin.{is_thin_function, is_thin_name, is_thin_module, Accepted}
+use Rattle.beam_code.specs.Accepted.{is_thin_function, is_thin_name, is_thin_module, Accepted}
 use Rattle.beam_code.specs.Weights.{fits}
 use Rattle.erjang_top.specs.LabelChecks.{labels_in}
 use Rattle.erjang_top.specs.SlotCheck.{passes, labels_differ}

@@ -1,15 +1,15 @@
 -- The answer, from what the work left and what the report said.
-use Rattle.std.proofs.Common.{◌≡◌, ℕ, ◌≤◌, ◌⊎◌, inl, inr, List, length, codes, Option, None, Some, Result, Ok, Err, IfSome, IsSomeAnd, sym, subst, arith}
-use Rattle.std.specs.FinMap as files
+use Rattle.std.proofs.Common.{◌≡◌, ℕ, ◌≤◌, ◌⊎◌, inl, inr, List, length, codes, Option, None, Some, Result, Ok, Err, IfSome, IsSomeAnd, sym, ap, subst, ◌∙◌, arith}
 use Rattle.ej_outside.specs.Counts.{Same, Rises}
 use Rattle.ej_outside.specs.Shelf.{Files, ShelfState}
 use Rattle.ej_outside.specs.Sink.{SinkState}
 use Rattle.beam_code.specs.declared.module.Module.{Module}
-use Rattle.beam_code.specs.Thin.{Thin}
 use Rattle.erjang_top.specs.declared.compile.Fault.{Fault}
 use Rattle.erjang_top.specs.declared.compile.Fault.TheVariants as fault
-use Rattle.erjang_top.specs.Answers.{Refusal, Absent, Longer, NotBuilt, First, Refused, Unchanged, Compiled, PutFailed, Told, SameCounts, TookAll, TookFront, Quiet, status_of, message, cause_text, longest_file, Answers}
+use Rattle.erjang_top.specs.Answers.{Refusal, First, Refused, Unchanged, Compiled, PutFailed, Told, SameCounts, TookAll, TookFront, Quiet, status_of, message, cause_text, longest_file, Answers}
+use Rattle.erjang_top.specs.Thin.{Thin}
 use Rattle.erjang_top.specs.Words.{Compile}
+use Rattle.erjang_top.proofs.OneFirst.{one_first}
 use Rattle.erjang_top.specs.Work.{Works, Reports, refusal_of}
 
 -- a count that rose is not quiet
@@ -17,27 +17,12 @@ not_quiet : {G : Type 0} (old new : ℕ) → Rises old new → Quiet old new →
 not_quiet old new (within, inl rose) (same, end) = absurd (omega arith)
 not_quiet old new (within, inr at_end) (same, end) = absurd (end at_end)
 
-absent_alone : {X : Type 0} (o : Option X) (P : X → Type 0) → o ≡ None → IsSomeAnd o P → ⊥
-absent_alone None P e p = p
-absent_alone (Some x) P e p = cc
-
-both_held : {X : Type 0} (o : Option X) (P Q : X → Type 0) → ((x : X) → P x → Q x → ⊥) → IsSomeAnd o P → IsSomeAnd o Q → ⊥
-both_held None P Q never p q = p
-both_held (Some x) P Q never p q = never x p q
-
--- what is refused is not accepted
-pub refused_alone : (held : Files) (w : Compile) (cause : Refusal) → First held w (Some cause) → First held w None → ⊥
-refused_alone held w Absent p q = absent_alone (files.get held w.file) _ p q
-refused_alone held w Longer p q = both_held (files.get held w.file) _ _ (λ bytes long (short, m, thin). omega arith) p q
-refused_alone held w NotBuilt p q = both_held (files.get held w.file) _ _ (λ bytes (short, none) (fits, m, thin). none m thin) p q
-
 -- the status of a refusal, where the contents are told
 refused_status : (w : Compile) (held : Files) (told : Option Files) (cause : Refusal) (first : Option Refusal) (status : ℕ) → status ≡ 1
-    → told ≡ Some held → IfSome told (λ h. First h w (Some cause)) → First held w first → status ≡ status_of first
-refused_status w held told cause (Some other) status s e p q = s
-refused_status w held told cause None status s e p q =
-    let p' = subst (λ (o : Option Files). IfSome o (λ h. First h w (Some cause))) e p in
-    absurd (refused_alone held w cause p' q)
+    → told ≡ Some held → IfSome told (λ h. (other : Option Refusal) → First h w other → other ≡ Some cause) → First held w first → status ≡ status_of first
+refused_status w held told cause first status s e only is =
+    let only' = subst (λ (o : Option Files). IfSome o (λ h. (other : Option Refusal) → First h w other → other ≡ Some cause)) e only in
+    s ∙ sym (ap status_of (only' first is))
 
 -- the source of a class was accepted
 done_accepted : (w : Compile) (held new : Files) → Compiled w held new → First held w None
@@ -45,12 +30,12 @@ done_accepted w held new c = subst (λ (o : Option (List ℕ)). IsSomeAnd o (λ 
 
 done_status : (w : Compile) (held : Files) (old new : Option Files) (first : Option Refusal) (status : ℕ) → status ≡ 0
     → old ≡ Some held → Told old new (Compiled w) → First held w first → status ≡ status_of first
-done_status w held old new None status s e p q = s
-done_status w held None new (Some cause) status s e p q = cc
-done_status w held (Some was) None (Some cause) status s e p q = absurd p
-done_status w held (Some was) (Some is) (Some cause) status s e p q =
+done_status w held None new first status s e p q = cc
+done_status w held (Some was) None first status s e p q = absurd p
+done_status w held (Some was) (Some is) first status s e p q =
     let e' : was ≡ held = cc in
-    absurd (refused_alone held w cause q (subst (λ (h : Files). First h w None) e' (done_accepted w was is p)))
+    let accepted = subst (λ (h : Files). First h w None) e' (done_accepted w was is p) in
+    s ∙ sym (ap status_of (one_first held w first None q accepted))
 
 -- the answers, status by status
 answer_done : (w : Compile) (status : ℕ) (old new : ShelfState) (err err' : SinkState) → status ≡ 0
@@ -76,7 +61,7 @@ answer_refused w cause status old new err err' s p q = record {
   write_failed = λ e. absurd (omega arith);
   no_memory = λ e. absurd (omega arith);
   within = omega arith;
-  complete = λ held first told is reads puts errs. inl (refused_status w held old.held cause first status s told p.told is);
+  complete = λ held first told is reads puts errs. inl (refused_status w held old.held cause first status s told p.only is);
 }
 
 answer_read_failed : (w : Compile) (status : ℕ) (old new : ShelfState) (err err' : SinkState) → status ≡ 3

@@ -13,7 +13,7 @@ use Rattle.beam_code.specs.Keys.{Key, key_of, is_among}
 use Rattle.beam_code.specs.LabelRules.{begins_well, no_label_twice, labels_of}
 use Rattle.beam_code.specs.Opcode.{Opcode, Label}
 use Rattle.beam_code.specs.Slots.{WellSlotted}
-use Rattle.beam_code.specs.Thin.{Accepted}
+use Rattle.beam_code.specs.Accepted.{Accepted}
 use Rattle.beam_code.specs.Turn.{instructions, place_of, Machine, Begun, end_reason, most_steps, machine_at, resolved, enter, bad_call, turn}
 use Rattle.erjang_top.specs.Flow.{arguments}
 use Rattle.erjang_top.specs.ModuleClass.{body}

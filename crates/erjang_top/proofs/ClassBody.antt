@@ -10,7 +10,7 @@ use Rattle.ej_term.specs.Term as term
 use Rattle.ej_world.specs.World.{Raise}
 use Rattle.beam_code.specs.Opcode.{Source, X, Of, Integer, Atom, Nil, Opcode, Label, Line, FuncInfo, Move, Return, Unknown}
 use Rattle.beam_code.specs.Opcode as code
-use Rattle.beam_code.specs.Thin.{is_thin_name, is_thin_source, is_register, is_thin_opcode}
+use Rattle.beam_code.specs.Accepted.{is_thin_name, is_thin_source, is_register, is_thin_opcode}
 use Rattle.beam_code.specs.Weights.{same_value}
 use Rattle.erjang_top.specs.ClassFile.{Op, Method, Class}
 use Rattle.erjang_top.specs.ClassTurn.{Value, OfTerm, Proc, Held, literal, term_printed, Ran, Status}

@@ -10,7 +10,7 @@ use Rattle.beam_code.specs.declared.module.Function.{Function}
 use Rattle.beam_code.specs.LabelRules.{opcodes}
 use Rattle.beam_code.specs.Opcode.{Source, X, Of, Integer, Atom, Nil, Opcode, Label, Line, FuncInfo, Move, Return, Unknown}
 use Rattle.beam_code.specs.Opcode as code
-use Rattle.beam_code.specs.Thin.{is_thin_opcode}
+use Rattle.beam_code.specs.Accepted.{is_thin_opcode}
 use Rattle.beam_code.specs.Weights.{instruction_weight, weight, same_value}
 use Rattle.erjang_top.specs.ClassFile.{Op, Method, Class}
 use Rattle.erjang_top.specs.ClassTurn.{Value, Top, Int, OfTerm, Proc, Held, activation, run_method}

@@ -13,7 +13,7 @@ use Rattle.beam_code.specs.declared.module.Module.{Module}
 use Rattle.beam_code.specs.Keys.{same_key, key_of, is_among}
 use Rattle.beam_code.specs.LabelRules.{opcodes}
 use Rattle.beam_code.specs.Opcode as code
-use Rattle.beam_code.specs.Thin.{is_thin_name, is_count, is_thin_opcode, is_thin_function}
+use Rattle.beam_code.specs.Accepted.{is_thin_name, is_count, is_thin_opcode, is_thin_function}
 use Rattle.erjang_top.specs.ClassFile.{Constant, Class}
 use Rattle.erjang_top.specs.ClassProfile.{utf8_in, utf8_at}
 use Rattle.erjang_top.specs.ClassTurn.{exported}

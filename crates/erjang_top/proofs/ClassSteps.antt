@@ -5,7 +5,7 @@ use Rattle.beam_code.specs.declared.module.Function.{Function}
 use Rattle.beam_code.specs.declared.module.Module.{Module}
 use Rattle.beam_code.specs.Keys.{is_among, key_of}
 use Rattle.beam_code.specs.Opcode.{Value}
-use Rattle.beam_code.specs.Thin.{is_thin_module}
+use Rattle.beam_code.specs.Accepted.{is_thin_module}
 use Rattle.erjang_top.specs.ClassFile.{u2, u4, counted, Constant, Op, Method, constant_bytes, op_bytes, code_bytes, code_content, method_bytes, class_bytes}
 use Rattle.erjang_top.specs.ClassProfile.{InProfile, IsMethod}
 use Rattle.erjang_top.specs.ModuleClass.{body, registers, constants, first_name, function_ops, method_of, methods_of, placed, pool_of, class_of}

@@ -13,7 +13,7 @@ use Rattle.beam_code.specs.declared.module.Module.{Module}
 use Rattle.beam_code.specs.Keys.{Key, key_of, is_among}
 use Rattle.beam_code.specs.LabelRules.{opcodes, begins_well, no_label_twice, labels_of}
 use Rattle.beam_code.specs.Slots.{WellSlotted}
-use Rattle.beam_code.specs.Thin.{Accepted, is_thin_name, is_count, is_thin_opcode, is_thin_function}
+use Rattle.beam_code.specs.Accepted.{Accepted, is_thin_name, is_count, is_thin_opcode, is_thin_function}
 use Rattle.beam_code.specs.Turn.{end_reason}
 use Rattle.beam_code.specs.Weights.{weight, pool_weight}
 use Rattle.erjang_top.specs.ClassFile.{Method, Class}

@@ -8,7 +8,7 @@ use Rattle.std.proofs.lemmas.Bool.Decides.{nat_tests}
 use Rattle.beam_code.specs.declared.module.Function.{Function}
 use Rattle.beam_code.specs.declared.module.Module.{Module}
 use Rattle.beam_code.specs.Opcode.{Value, Integer, Atom, Nil, Source, X, Of, Opcode, Label, Line, FuncInfo, Move, Return, Unknown}
-use Rattle.beam_code.specs.Thin.{is_register, is_thin_source, is_thin_opcode}
+use Rattle.beam_code.specs.Accepted.{is_register, is_thin_source, is_thin_opcode}
 use Rattle.std.proofs.Math.Nat.{max-le}
 use Rattle.std.proofs.lemmas.Grind.{flat_map-append}
 use Rattle.beam_code.specs.Weights.{same_value}

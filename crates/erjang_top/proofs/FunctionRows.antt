@@ -16,7 +16,7 @@ is_function (form.Function name arity entry) = true
 is_function _ = false
 
 -- a form that stands among a function's rows
-abbrev stands : Form → Bool
+abbrev pub stands : Form → Bool
 stands f = is_function f || is_instruction f
 
 code-stands : (o : Opcode) → is_known o ≡ true → stands (code_row o) ≡ true
@@ -31,7 +31,7 @@ codes-stand : (code : List Instr) → list_all stands (map (λ i. code_row (opco
 codes-stand [] = refl
 codes-stand (i ∷ code) = rw (code-stands (opcode i) i.fits_row) (codes-stand code)
 
-rows-stand : (functions : List Function) → list_all stands (flat_map function_rows functions) ≡ true
+pub rows-stand : (functions : List Function) → list_all stands (flat_map function_rows functions) ≡ true
 rows-stand [] = refl
 rows-stand (f ∷ functions) =
     list_all-append stands (map (λ i. code_row (opcode i)) f.code) (flat_map function_rows functions)

@@ -3,6 +3,13 @@ mod Worked
 mod Answered
 pub mod Appends
 mod WorkedLemmas
+pub mod Reading
+pub mod TermLaw
+pub mod FormLaw
+pub mod FormKinds
+pub mod OneModule
+pub mod ReadLemmas
+pub mod OneFirst
 pub mod Flows
 pub mod ModuleValues
 pub mod Spelling
@@ -53,16 +60,7 @@ pub mod SelectSteps
 pub mod PoolSteps
 pub mod ClassSteps
 pub mod Conjunction
-pub mod ThinNames
-pub mod ThinNumbers
 pub mod Lists
 pub mod FunctionRows
-pub mod ReadArms
-pub mod RowLines
-pub mod LineLemmas
-pub mod RowWords
 pub mod ModuleRows
-pub mod RowLaw
-pub mod ReadLemmas
-pub mod OneText
 pub mod HeadParts

@@ -11,7 +11,7 @@ use Rattle.beam_code.specs.declared.module.Module.{Module}
 use Rattle.beam_code.specs.Keys.{key_of, is_among}
 use Rattle.beam_code.specs.LabelRules.{opcodes, begins_well, no_label_twice, labels_of}
 use Rattle.beam_code.specs.Slots.{WellSlotted}
-use Rattle.beam_code.specs.Thin.{is_thin_opcode, Accepted}
+use Rattle.beam_code.specs.Accepted.{is_thin_opcode, Accepted}
 use Rattle.beam_code.specs.Weights.{weight, pool_weight}
 use Rattle.erjang_top.specs.ClassFile.{Constant, code_bytes, counted, maps_bytes, u2, class_bytes}
 use Rattle.erjang_top.specs.ClassProfile.{utf8_in, utf8_at, IsMethod, InProfile, ClassOf}

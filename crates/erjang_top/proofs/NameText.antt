@@ -8,7 +8,7 @@ use Rattle.std.specs.Fmt.{digits, decimal}
 use Rattle.std.proofs.lemmas.Str.{encode_ascii}
 use Rattle.std.proofs.Math.Utf8.{low_scalar}
 use Rattle.ej_term.specs.Atoms.{is_name_character, is_lower, is_plain, is_name, is_reserved}
-use Rattle.beam_code.specs.Thin.{is_thin_name}
+use Rattle.beam_code.specs.Accepted.{is_thin_name}
 use Rattle.erjang_top.specs.ClassFile.{Constant, Utf8}
 use Rattle.erjang_top.specs.ClassProfile.{modified_utf8, IsModifiedUtf8, IsEntry}
 use Rattle.erjang_top.specs.Mangle.{mangle_byte, mangle, class_name, method_name}

@@ -10,7 +10,7 @@ use Rattle.beam_code.specs.declared.module.Function.{Function}
 use Rattle.beam_code.specs.declared.module.Module.{Module}
 use Rattle.beam_code.specs.LabelRules.{opcodes}
 use Rattle.beam_code.specs.Opcode.{Integer, Source, Of, Opcode}
-use Rattle.beam_code.specs.Thin.{is_thin_name, is_thin_opcode, is_thin_function, is_thin_module, is_thin_source}
+use Rattle.beam_code.specs.Accepted.{is_thin_name, is_thin_opcode, is_thin_function, is_thin_module, is_thin_source}
 use Rattle.erjang_top.specs.Mangle.{class_name, method_name}
 use Rattle.erjang_top.specs.ModuleClass.{body}
 use Rattle.erjang_top.proofs.NameText.{name_text, encoded_name, class_name_text, method_name_text}

@@ -8,7 +8,7 @@ use Rattle.std.proofs.lemmas.Str.{chars-IsAscii, encodes-IsAscii}
 use Rattle.std.proofs.lemmas.Str.Ascii.{IsAscii-nil, IsAscii-cons}
 use Rattle.ej_term.specs.Atoms.{is_between, is_lower, is_name_character, is_name, is_reserved}
 use Rattle.ej_term.proofs.TextLemmas.{encode-chars}
-use Rattle.beam_code.specs.Thin.{is_thin_name}
+use Rattle.beam_code.specs.Accepted.{is_thin_name}
 
 within : (low high c : ℕ) → high < 128 → is_between low high c ≡ true → c < 128
 within low high c h e = grind (arith, nat_tests)
@@ -36,7 +36,7 @@ characters (c ∷ cs) e =
     let p = and_parts (is_name_character c) (list_all is_name_character cs) e in
     IsAscii-cons c cs (character c p.0) (characters cs p.1)
 
-name-ascii : (cs : List ℕ) → is_name cs ≡ true → IsAscii cs
+pub name-ascii : (cs : List ℕ) → is_name cs ≡ true → IsAscii cs
 name-ascii [] e = IsAscii-nil
 name-ascii (c ∷ cs) e =
     let p = and_parts (is_lower c) (list_all is_name_character cs) e in

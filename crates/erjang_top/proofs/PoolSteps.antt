@@ -7,7 +7,7 @@ use Rattle.beam_code.specs.declared.module.Function.{Function}
 use Rattle.beam_code.specs.declared.module.Module.{Module}
 use Rattle.beam_code.specs.Opcode as code
 use Rattle.beam_code.specs.Opcode.{Of}
-use Rattle.beam_code.specs.Thin.{is_thin_source, is_thin_name}
+use Rattle.beam_code.specs.Accepted.{is_thin_source, is_thin_name}
 use Rattle.erjang_top.specs.ClassFile.{u2, Utf8, StringEntry, constant_bytes}
 use Rattle.erjang_top.specs.Mangle.{class_name}
 use Rattle.erjang_top.specs.ModuleClass.{first_value, fixed_entries, value_entries, values_entries, name_entry, constants, first_name, pool_of}

@@ -1,71 +1,100 @@
--- Reading a text, from its forms.
-use Rattle.std.proofs.Common.{◌≡◌, ℕ, Bool, true, false, not, List, [], map, Option, None, Some, Result, Ok, Err, refl, sym, ap, subst, ◌∙◌}
-use Rattle.std.specs.Prelude.{IfOk, IfSome, IfNone}
-use Rattle.std.specs.List.{list_all, flat_map}
-use Rattle.std.specs.Str.{bytes_eq}
-use Rattle.std.proofs.lemmas.Slice.Eq.{bytes_eq-Decides}
+-- What reading the forms of a source tells.
+use Rattle.std.proofs.Common.{◌≡◌, ℕ, true, List, [], ◌∷◌, map, Option, None, Some, Result, Ok, Err, IfOk, refl, sym, subst, ◌∙◌}
+use Rattle.std.specs.Prelude.{IfSome, IfNone}
+use Rattle.std.specs.List.{list_all, flat_map, AllZip}
+use Rattle.ej_term.specs.declared.asm_term.AsmTerm.{AsmTerm}
+use Rattle.asm_terms.specs.Forms.{AreForms}
 use Rattle.beam_code.specs.declared.module.Function.{Function}
 use Rattle.beam_code.specs.declared.module.Module.{Module}
-use Rattle.beam_code.specs.Forms.{text}
+use Rattle.beam_code.specs.Accepted.{is_count, is_thin_module}
+use Rattle.beam_code.specs.Forms.{forms_of}
 use Rattle.beam_code.specs.Keys.{Key}
-use Rattle.beam_code.specs.Thin.{is_count, is_thin_module, Thin}
 use Rattle.erjang_top.specs.declared.source.form.Form.{Form}
+use Rattle.erjang_top.specs.declared.source.form.Form.TheVariants as form
 use Rattle.erjang_top.specs.declared.source.parts.Parts.{Parts}
-use Rattle.erjang_top.specs.Lines.{lines_from}
-use Rattle.erjang_top.specs.Rows.{form_words, row_line, is_thin_form, rows_of}
-use Rattle.erjang_top.specs.Source.{ReadsText, IsModuleOf}
-use Rattle.erjang_top.proofs.Conjunction.{clash}
-use Rattle.erjang_top.proofs.OneText.{rows-tell}
-use Rattle.erjang_top.proofs.ModuleRows.{module_rows, rows-text, rows-thin, module-words}
+use Rattle.erjang_top.specs.Rows.{form_term, function_rows, rows_of, IsFormOf}
+use Rattle.erjang_top.specs.Source.{AreOf, ReadsParts, IsModuleOf, IsOfModule, ReadsModule}
+use Rattle.erjang_top.specs.Thin.{Thin, IsNotBuilt}
+use Rattle.erjang_top.proofs.Conjunction.{and_left, and_right, clash}
+use Rattle.erjang_top.proofs.FormLaw.{read-rows}
+use Rattle.erjang_top.proofs.FunctionRows.{stands, rows-stand}
+use Rattle.erjang_top.proofs.ModuleRows.{module_rows, rows-terms, rows-forms}
+use Rattle.erjang_top.proofs.OneModule.{rows-tell}
+use Rattle.erjang_top.proofs.Reading.{same_forms}
 
--- the forms of a text are those whose words its lines are
-abbrev pub ReadsForms : List ℕ → List Form → Type 0
-ReadsForms bytes read = (forms : List Form) → list_all is_thin_form forms ≡ true → lines_from [] [] bytes ≡ map form_words forms → read ≡ forms
+-- a row that is read of a term tells the term
+stand-term : (t : AsmTerm) (f : Form) → stands f ≡ true → IsFormOf t f → t ≡ form_term f
+stand-term t form.Other a is = clash (sym a)
+stand-term t f a is = sym is
 
--- those of a plain module's text are its rows
-pub module-read : (bytes : List ℕ) (read : List Form) (labels : ℕ) (m : Module) → ReadsForms bytes read → is_count labels ≡ true → is_thin_module m ≡ true → bytes ≡ text labels m → read ≡ module_rows labels m
-module-read bytes read labels m reads count thin is =
-    reads (module_rows labels m) (rows-thin labels m count thin) (ap (lines_from [] []) is ∙ module-words labels m count thin)
+stand-terms : (terms : List AsmTerm) (rows : List Form) → list_all stands rows ≡ true → AllZip IsFormOf terms rows → terms ≡ map form_term rows
+stand-terms [] [] a all = refl
+stand-terms [] (f ∷ rows) a all = absurd all
+stand-terms (t ∷ terms) [] a all = absurd all
+stand-terms (t ∷ terms) (f ∷ rows) a all =
+    let here = stand-term t f (and_left (stands f) (list_all stands rows) a) all.0 in
+    let rest = stand-terms terms rows (and_right (stands f) (list_all stands rows) a) all.1 in
+    λ i. here i ∷ rest i
 
--- and so print as that text
-pub module-printed : (bytes printed : List ℕ) (read : List Form) (labels : ℕ) (m : Module) → ReadsForms bytes read → is_count labels ≡ true → is_thin_module m ≡ true → bytes ≡ text labels m
-    → printed ≡ flat_map row_line read → printed ≡ bytes
-module-printed bytes printed read labels m reads count thin is print =
-    print ∙ ap (flat_map row_line) (module-read bytes read labels m reads count thin is) ∙ rows-text labels m.name m.exports m.functions ∙ sym is
+-- the rows of parts that are read of terms tell that these are the parts' forms
+rows-read : (terms : List AsmTerm) (labels : ℕ) (name : List ℕ) (exports : List Key) (functions : List Function) → AllZip IsFormOf terms (rows_of labels name exports functions) → terms ≡ forms_of labels name exports functions
+rows-read (owner ∷ keys ∷ attributes ∷ count ∷ terms) labels name exports functions all =
+    let rest = stand-terms terms (flat_map function_rows functions) (rows-stand functions) all.1.1.1.1 in
+    let same : owner ∷ keys ∷ attributes ∷ count ∷ terms ≡ map form_term (rows_of labels name exports functions) = λ i. sym all.0 i ∷ sym all.1.0 i ∷ sym all.1.1.0 i ∷ sym all.1.1.1.0 i ∷ rest i in
+    same ∙ rows-terms labels name exports functions
+rows-read [] labels name exports functions all = absurd all
+rows-read (owner ∷ []) labels name exports functions all = absurd all.1
+rows-read (owner ∷ keys ∷ []) labels name exports functions all = absurd all.1.1
+rows-read (owner ∷ keys ∷ attributes ∷ []) labels name exports functions all = absurd all.1.1.1
 
-pub read-text : {E : Type 0} (bytes : List ℕ) (read : List Form) (r : Result (Option Parts) E) → ReadsForms bytes read → bytes ≡ flat_map row_line read
+-- the forms that were read are the rows of each plain module whose forms they are
+module-read : (terms : List AsmTerm) (read : List Form) (labels : ℕ) (m : Module) → AllZip IsFormOf terms read → is_count labels ≡ true → is_thin_module m ≡ true → AreOf terms labels m → read ≡ module_rows labels m
+module-read terms read labels m all count thin are =
+    let of_rows = are ∙ sym (rows-terms labels m.name m.exports m.functions) in
+    read-rows (module_rows labels m) read (rows-forms labels m count thin) (subst (λ ts. AllZip IsFormOf ts read) of_rows all)
+
+pub parts-read : {E : Type 0} (terms : List AsmTerm) (read : List Form) (r : Result (Option Parts) E) → AllZip IsFormOf terms read
     → IfOk r (λ made. IfSome made (λ (parts : Parts). rows_of parts.labels parts.owner parts.exports parts.functions ≡ read))
     → IfOk r (λ made. IfSome made (λ (parts : Parts). is_count parts.labels ≡ true))
     → IfOk r (λ made. IfNone made ((labels : ℕ) (owner : List ℕ) (exports : List Key) (functions : List Function) → rows_of labels owner exports functions ≡ read → ⊥))
-    → IfOk r (ReadsText bytes)
-read-text bytes read (Err e) reads is made count none = tt
-read-text bytes read (Ok (Some parts)) reads is made count none = (
+    → IfOk r (ReadsParts terms)
+parts-read terms read (Err e) all made count none = tt
+parts-read terms read (Ok (Some p)) all made count none = (
   count,
-  is ∙ ap (flat_map row_line) (sym made) ∙ rows-text parts.labels parts.owner parts.exports parts.functions,
-  λ labels m small thin e.
-      let told = rows-tell labels parts.labels m.name parts.owner m.exports parts.exports m.functions parts.functions (sym (module-read bytes read labels m reads small thin e) ∙ sym made) in
+  rows-read terms p.labels p.owner p.exports p.functions (subst (AllZip IsFormOf terms) (sym made) all),
+  λ labels m small thin are.
+      let told = rows-tell labels p.labels m.name p.owner m.exports p.exports m.functions p.functions (sym (module-read terms read labels m all small thin are) ∙ sym made) in
       record { name = told.name; exports = told.exports; functions = told.functions },
 )
-read-text bytes read (Ok None) reads is made count none =
-    λ labels m count thin e. none labels m.name m.exports m.functions (sym (module-read bytes read labels m reads count thin e))
+parts-read terms read (Ok None) all made count none =
+    λ labels m small thin are. none labels m.name m.exports m.functions (sym (module-read terms read labels m all small thin are))
 
--- what a comparison of texts that found no difference tells
-pub equal-texts : (xs ys : List ℕ) (differ : Bool) → differ ≡ not (bytes_eq xs ys) → differ ≡ false → xs ≡ ys
-equal-texts xs ys differ is same_text = (bytes_eq-Decides xs ys).0 (same (bytes_eq xs ys) (sym is ∙ same_text))
-  where
-    same : (b : Bool) → not b ≡ false → b ≡ true
-    same true e = refl
-    same false e = clash e
-
--- and one that found one
-pub unequal-texts : (xs ys : List ℕ) (differ : Bool) → differ ≡ not (bytes_eq xs ys) → differ ≡ true → xs ≡ ys → ⊥
-unequal-texts xs ys differ is other e =
-    let equal = (bytes_eq-Decides xs ys).1 e in
-    clash (sym other ∙ is ∙ ap not equal)
-
--- where the parts of a text are no module's, no module has it as its thin text
-pub no-module : (bytes : List ℕ) (o : Option Parts) (p : Parts) (r : Option Module) → ReadsText bytes o → o ≡ Some p → IsModuleOf p r → r ≡ None → (m : Module) → Thin bytes m → ⊥
-no-module bytes o p r reads e is none m thin =
-    let told = subst (λ x. ReadsText bytes x) e reads in
+-- where the parts of the forms are no module's, no module has the forms
+pub no-module : (terms : List AsmTerm) (o : Option Parts) (p : Parts) (r : Option Module) → ReadsParts terms o → o ≡ Some p → IsModuleOf p r → r ≡ None → (m : Module) → IsOfModule terms m → ⊥
+no-module terms o p r reads e is none m of_module =
+    let told = subst (λ x. ReadsParts terms x) e reads in
     let no = subst (λ x. IsModuleOf p x) none is in
-    no m (told.2 thin.labels m thin.in_range thin.accepted.plain thin.is_text)
+    no m (told.2 of_module.labels m of_module.in_range of_module.accepted.plain of_module.are_of)
+
+-- what a source that has forms is read as
+abbrev pub ReadsOk : List ℕ → Option Module → Type 0
+ReadsOk bytes (Some m) = Thin bytes m
+ReadsOk bytes None = IsNotBuilt bytes
+
+pub source-read : (bytes : List ℕ) (terms : List AsmTerm) (r : Option Module) → AreForms bytes terms → ReadsModule terms r → ReadsOk bytes r
+source-read bytes terms (Some m) are of_module = record {
+  labels = of_module.labels;
+  in_range = of_module.in_range;
+  are_forms = subst (AreForms bytes) of_module.are_of are;
+  accepted = of_module.accepted;
+}
+source-read bytes terms None are none = (
+  terms,
+  are,
+  λ m thin. none m (record {
+    labels = thin.labels;
+    in_range = thin.in_range;
+    are_of = same_forms bytes terms (forms_of thin.labels m.name m.exports m.functions) are thin.are_forms;
+    accepted = thin.accepted;
+  }),
+)

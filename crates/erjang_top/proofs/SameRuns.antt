@@ -11,7 +11,7 @@ use Rattle.ej_world.specs.Agree.{Keeps, SameTurn, Agree, IsScript}
 use Rattle.ej_world.proofs.Runs.{run_same}
 use Rattle.beam_code.specs.declared.module.Module.{Module}
 use Rattle.beam_code.specs.Keys.{is_among}
-use Rattle.beam_code.specs.Thin.{Accepted, is_thin_name, is_thin_function}
+use Rattle.beam_code.specs.Accepted.{Accepted, is_thin_name, is_thin_function}
 use Rattle.beam_code.specs.Turn as beam_turn
 use Rattle.beam_code.specs.Turn.{beam, end_reason}
 use Rattle.erjang_top.specs.ClassFile.{Class}

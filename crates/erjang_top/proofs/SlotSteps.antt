@@ -8,7 +8,7 @@ use Rattle.beam_code.specs.declared.module.Function.{Function}
 use Rattle.beam_code.specs.Forms.{opcode}
 use Rattle.beam_code.specs.LabelRules.{opcodes}
 use Rattle.beam_code.specs.Opcode.{Opcode}
-use Rattle.beam_code.specs.Thin.{is_thin_name, is_thin_opcode, is_thin_function, is_count}
+use Rattle.beam_code.specs.Accepted.{is_thin_name, is_thin_opcode, is_thin_function, is_count}
 use Rattle.erjang_top.specs.Flow.{Holding, flows}
 use Rattle.erjang_top.specs.SlotCheck.{defines_label, behind}
 use Rattle.erjang_top.proofs.Dropped.{dropped}

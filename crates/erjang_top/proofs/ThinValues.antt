@@ -9,7 +9,7 @@ use Rattle.beam_code.specs.declared.module.Function.{Function}
 use Rattle.beam_code.specs.declared.module.Module.{Module}
 use Rattle.beam_code.specs.LabelRules.{opcodes}
 use Rattle.beam_code.specs.Opcode.{Value, X, Of, Opcode, Label, Line, FuncInfo, Move, Return, Unknown}
-use Rattle.beam_code.specs.Thin.{is_thin_name, is_count, is_integer, is_thin_source, is_thin_opcode, is_thin_function, is_thin_module, is_register}
+use Rattle.beam_code.specs.Accepted.{is_thin_name, is_count, is_integer, is_thin_source, is_thin_opcode, is_thin_function, is_thin_module, is_register}
 use Rattle.beam_code.specs.Weights.{value_in, values_of, same_value, with_value}
 use Rattle.erjang_top.specs.ModuleClass.{constants, is_entry, behind}
 use Rattle.erjang_top.proofs.NameText.{IsNameText, name_text}

@@ -5,14 +5,15 @@ use Rattle.std.specs.FinMap as files
 use Rattle.ej_outside.specs.Counts.{Same, Rises}
 use Rattle.ej_outside.specs.Shelf.{Files, ShelfState, GetsWith, PutsWith, Replaces, MayReplace}
 use Rattle.beam_code.specs.declared.module.Module.{Module}
-use Rattle.beam_code.specs.Thin.{Thin}
 use Rattle.erjang_top.specs.declared.compile.Fault.{Fault}
 use Rattle.erjang_top.specs.declared.compile.Fault.TheVariants as fault
 use Rattle.erjang_top.specs.declared.compile.Refusal.TheVariants as refusal
-use Rattle.erjang_top.specs.Answers.{NotBuilt, First, Held, Compiled, PutFailed, Told, SameCounts, longest_file}
+use Rattle.erjang_top.specs.Answers.{Refusal, Absent, Longer, BadText, TooDeep, NotBuilt, First, Held, Refused, Unchanged, Counted, Compiled, PutFailed, Told, SameCounts, longest_file}
+use Rattle.erjang_top.specs.Thin.{Thin}
 use Rattle.erjang_top.specs.Words.{Compile}
-use Rattle.erjang_top.proofs.OneText.{one_module}
-use Rattle.erjang_top.specs.Work.{Builds, IsClassOf, Works}
+use Rattle.erjang_top.proofs.OneFirst.{one_first}
+use Rattle.erjang_top.proofs.OneModule.{one_module}
+use Rattle.erjang_top.specs.Work.{GetsFault, Builds, IsClassOf, Works}
 
 -- that the shelf holds these bytes under the source's name, and not too many
 abbrev pub Source : Compile → List ℕ → Files → Type 0
@@ -74,19 +75,49 @@ work_put_failed w old mid new source name class r b p = record {
   longs = p.longs ∙ r.longs;
 }
 
+-- the source was not read
+pub work_not_got : (w : Compile) (old new : ShelfState) (fault : Fault) → GetsFault w.file old fault new → Works w old (Err fault) new
+work_not_got w old new (fault.Refused refusal.Absent) g = record {
+  told = g.told;
+  only = told_map old.held (λ held. First held w (Some Absent)) _ g.told (λ held absent other is. one_first held w other (Some Absent) is absent);
+  counted = record { contents = g.contents; read_faults = g.read_faults; put_faults = g.put_faults; misses = g.misses; longs = g.longs };
+}
+work_not_got w old new (fault.Refused refusal.Longer) g = record {
+  told = g.told;
+  only = told_map old.held (λ held. First held w (Some Longer)) _ g.told (λ held longer other is. one_first held w other (Some Longer) is longer);
+  counted = record { contents = g.contents; read_faults = g.read_faults; put_faults = g.put_faults; misses = g.misses; longs = g.longs };
+}
+work_not_got w old new fault.ReadFailed g = record { contents = g.contents; read_faults = g.read_faults; put_faults = g.put_faults; misses = g.misses; longs = g.longs }
+work_not_got w old new fault.NoMemory g = record { contents = g.contents; read_faults = g.read_faults; put_faults = g.put_faults; misses = g.misses; longs = g.longs }
+work_not_got w old new (fault.Refused (refusal.BadText form)) g = absurd g
+work_not_got w old new (fault.Refused (refusal.TooDeep form)) g = absurd g
+work_not_got w old new (fault.Refused refusal.NotBuilt) g = absurd g
+work_not_got w old new fault.PutFailed g = absurd g
+
+-- reading changed no count
+kept : (w : Compile) (old new : ShelfState) (source : List ℕ) → Read w source old new → Unchanged old new Same Same Same
+kept w old new source r = record { contents = r.contents; read_faults = r.read_faults; put_faults = r.put_faults; misses = r.misses; longs = r.longs }
+
+-- the source was read, and is refused for a cause that its bytes have
+refused_source : (w : Compile) (cause : Refusal) (old new : ShelfState) (source : List ℕ) → Read w source old new
+    → ((held : Files) → Source w source held → First held w (Some cause)) → Counted cause old new → Refused w cause old new
+refused_source w cause old new source r has counted = record {
+  told = told_map old.held (Source w source) (λ held. First held w (Some cause)) r.told has;
+  only = told_map old.held (Source w source) _ r.told (λ held s other is. one_first held w other (Some cause) is (has held s));
+  counted = counted;
+}
+
 -- the source was read, and is built to no class
 pub work_not_built : (w : Compile) (old new : ShelfState) (source : List ℕ) (fault : Fault)
     → Read w source old new → Builds w.outdir source (Err fault) → Works w old (Err fault) new
 work_not_built w old new source (fault.Refused refusal.Absent) r b = absurd b
 work_not_built w old new source (fault.Refused refusal.Longer) r b = absurd b
-work_not_built w old new source (fault.Refused refusal.NotBuilt) r b = record {
-  told = told_map old.held (Source w source) (λ held. First held w (Some NotBuilt)) r.told
-      (λ held s. held_source w source held _ s.0 (s.1, b));
-  counted = record { contents = r.contents; read_faults = r.read_faults; put_faults = r.put_faults; misses = r.misses; longs = r.longs };
-}
+work_not_built w old new source (fault.Refused (refusal.BadText form)) r b = refused_source w (BadText form) old new source r (λ held s. held_source w source held _ s.0 (s.1, b)) (kept w old new source r)
+work_not_built w old new source (fault.Refused (refusal.TooDeep form)) r b = refused_source w (TooDeep form) old new source r (λ held s. held_source w source held _ s.0 (s.1, b)) (kept w old new source r)
+work_not_built w old new source (fault.Refused refusal.NotBuilt) r b = refused_source w NotBuilt old new source r (λ held s. held_source w source held _ s.0 (s.1, b)) (kept w old new source r)
 work_not_built w old new source fault.ReadFailed r b = absurd b
 work_not_built w old new source fault.PutFailed r b = absurd b
-work_not_built w old new source fault.NoMemory r b = record { contents = r.contents; read_faults = r.read_faults; put_faults = r.put_faults; misses = r.misses; longs = r.longs }
+work_not_built w old new source fault.NoMemory r b = kept w old new source r
 
 -- an error that is passed on
 pub work_passed_on : (w : Compile) (old new : ShelfState) (r : Result (Unit {0}) Fault) (fault : Fault)

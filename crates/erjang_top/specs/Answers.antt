@@ -2,13 +2,16 @@
 use Rattle.std.specs.Prelude.{◌≡◌, ◌≢◌, ℕ, ◌-◌, ◌^◌, ◌<◌, ◌≤◌, ◌⊎◌, List, [], ◌∷◌, ◌++◌, length, take, codes, Option, None, Some, IfSome, IsSomeAnd}
 use Rattle.std.specs.Option.{option_map}
 use Rattle.std.specs.FinMap as files
+use Rattle.std.specs.Fmt.{decimal}
 use Rattle.beam_code.specs.declared.module.Module.{Module}
-use Rattle.beam_code.specs.Thin.{Thin}
+use Rattle.asm_terms.specs.Forms as text
+use Rattle.asm_terms.specs.Forms.{FirstFault}
 use Rattle.ej_outside.specs.Counts.{Same, Rises}
 use Rattle.ej_outside.specs.Shelf.{Files, ShelfState, MayReplace}
 use Rattle.ej_outside.specs.Sink.{SinkState}
 use Rattle.erjang_top.specs.Emitted.{Emitted}
 use Rattle.erjang_top.specs.Mangle.{mangle}
+use Rattle.erjang_top.specs.Thin.{Thin, IsNotBuilt}
 use Rattle.erjang_top.specs.Words.{Compile}
 
 -- the most bytes that a source may have
@@ -23,6 +26,9 @@ class_file outdir module' = outdir ++ codes "/" ++ mangle module' ++ codes ".cla
 pub data Refusal : Type 0 where
   Absent : Refusal
   Longer : Refusal
+  -- that form, counted from 0, is the first that does not read
+  BadText : (form : ℕ) → Refusal
+  TooDeep : (form : ℕ) → Refusal
   NotBuilt : Refusal
 
 -- the bytes of that file that are held
@@ -33,13 +39,21 @@ Held held w P = IsSomeAnd (files.get held w.file) P
 abbrev pub First : Files → Compile → Option Refusal → Type 0
 First held w (Some Absent) = files.get held w.file ≡ None
 First held w (Some Longer) = Held held w (λ bytes. longest_file < length bytes)
-First held w (Some NotBuilt) = Held held w (λ bytes. (length bytes ≤ longest_file) × ((m : Module) → Thin bytes m → ⊥))
+First held w (Some (BadText form)) = Held held w (λ bytes. (length bytes ≤ longest_file) × FirstFault bytes form text.BadText)
+First held w (Some (TooDeep form)) = Held held w (λ bytes. (length bytes ≤ longest_file) × FirstFault bytes form text.TooDeep)
+First held w (Some NotBuilt) = Held held w (λ bytes. (length bytes ≤ longest_file) × IsNotBuilt bytes)
 First held w None = Held held w (λ bytes. (length bytes ≤ longest_file) × (m : Module) × Thin bytes m)
+
+-- what is said of a form
+abbrev pub form_text : ℕ → List ℕ → List ℕ
+form_text form cause = codes ": form " ++ decimal form ++ cause
 
 -- what is said of a refusal
 abbrev pub cause_text : Refusal → List ℕ
 cause_text Absent = codes ": absent"
 cause_text Longer = codes ": longer than 67108864 bytes"
+cause_text (BadText form) = form_text form (codes ": bad text")
+cause_text (TooDeep form) = form_text form (codes ": too deep")
 cause_text NotBuilt = codes ": not built"
 
 -- a message about a file, with its newline
@@ -73,11 +87,15 @@ pub record Unchanged (old new : ShelfState) (Reads Misses Longs : ℕ → ℕ �
 abbrev pub Counted : Refusal → ShelfState → ShelfState → Type 0
 Counted Absent old new = Unchanged old new Same Rises Same
 Counted Longer old new = Unchanged old new Same Same Rises
+Counted (BadText form) old new = Unchanged old new Same Same Same
+Counted (TooDeep form) old new = Unchanged old new Same Same Same
 Counted NotBuilt old new = Unchanged old new Same Same Same
 
 -- the source is refused for that cause
 pub record Refused (w : Compile) (cause : Refusal) (old new : ShelfState) : Type 0 where
   pub told : IfSome old.held (λ held. First held w (Some cause))
+  -- and for no other
+  pub only : IfSome old.held (λ held. (other : Option Refusal) → First held w other → other ≡ Some cause)
   pub counted : Counted cause old new
 
 -- what a shelf holds with the class of an accepted module's source beside what it held
@@ -87,7 +105,7 @@ pub record Compiled (w : Compile) (held : Files) (new : Files) : Type 0 where
   pub short : length bytes ≤ longest_file
   pub module' : Module
   pub thin : Thin bytes module'
-  -- and no other module has them as its text
+  -- and they are the source of no other module
   pub only : (other : Module) → Thin bytes other → other ≡ module'
   pub class : List ℕ
   pub emitted : Emitted module' class

@@ -4,6 +4,7 @@ pub mod ClassProfile
 pub mod Typing
 pub mod Linking
 pub mod Emitted
+pub mod Thin
 pub mod Source
 pub mod Words
 pub mod Answers
@@ -21,5 +22,4 @@ pub mod SlotCheck
 pub mod Written
 pub mod SeenExports
 pub mod Select
-pub mod Lines
 pub mod Rows

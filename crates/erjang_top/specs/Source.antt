@@ -1,8 +1,13 @@
 -- What reading a source tells of its bytes.
-use Rattle.std.specs.Prelude.{◌≡◌, ℕ, true, List, Option, None, Some}
+use Rattle.std.specs.Prelude.{◌≡◌, ℕ, true, List, Option, None, Some, Result, Ok, Err}
+use Rattle.ej_term.specs.declared.asm_term.AsmTerm.{AsmTerm}
+use Rattle.asm_terms.specs.declared.fault.TextFault.{TextFault}
+use Rattle.asm_terms.specs.declared.fault.TextFault.TheVariants as fault
+use Rattle.asm_terms.specs.Forms.{FirstFault, BadText, TooDeep}
 use Rattle.beam_code.specs.declared.module.Module.{Module}
-use Rattle.beam_code.specs.Forms.{text_of, text}
-use Rattle.beam_code.specs.Thin.{is_count, is_thin_module, Thin}
+use Rattle.beam_code.specs.Forms.{forms_of}
+use Rattle.beam_code.specs.Accepted.{is_count, is_thin_module, Accepted}
+use Rattle.erjang_top.specs.Thin.{Thin, IsNotBuilt}
 use Rattle.erjang_top.specs.declared.source.parts.Parts.{Parts}
 
 -- a module has these parts
@@ -11,30 +16,39 @@ pub record HasParts (p : Parts) (m : Module) : Type 0 where
   pub exports : m.exports ≡ p.exports
   pub functions : m.functions ≡ p.functions
 
--- the parts whose text the bytes are, and which each plain module has whose text they are; or that they are the text
--- of no plain module
-abbrev pub ReadsText : List ℕ → Option Parts → Type 0
-ReadsText bytes (Some p) =
-    (is_count p.labels ≡ true) × (bytes ≡ text_of p.labels p.owner p.exports p.functions)
-    × ((labels : ℕ) (m : Module) → is_count labels ≡ true → is_thin_module m ≡ true → bytes ≡ text labels m → HasParts p m)
-ReadsText bytes None = (labels : ℕ) (m : Module) → is_count labels ≡ true → is_thin_module m ≡ true → bytes ≡ text labels m → ⊥
+-- the forms are those of the module, with that number in its form `{labels,N}`
+abbrev pub AreOf : List AsmTerm → ℕ → Module → Type 0
+AreOf forms labels m = forms ≡ forms_of labels m.name m.exports m.functions
+
+-- the parts that the forms are of, and that each plain module has whose forms they are; or that they are the forms of no
+-- plain module
+abbrev pub ReadsParts : List AsmTerm → Option Parts → Type 0
+ReadsParts forms (Some p) =
+    (is_count p.labels ≡ true) × (forms ≡ forms_of p.labels p.owner p.exports p.functions)
+    × ((labels : ℕ) (m : Module) → is_count labels ≡ true → is_thin_module m ≡ true → AreOf forms labels m → HasParts p m)
+ReadsParts forms None = (labels : ℕ) (m : Module) → is_count labels ≡ true → is_thin_module m ≡ true → AreOf forms labels m → ⊥
 
 -- the module of these parts, or that there is none
 abbrev pub IsModuleOf : Parts → Option Module → Type 0
 IsModuleOf p (Some m) = HasParts p m
 IsModuleOf p None = (m : Module) → HasParts p m → ⊥
 
--- the module whose thin text the bytes are, or that there is none
-abbrev pub ReadsThin : List ℕ → Option Module → Type 0
-ReadsThin bytes (Some m) = Thin bytes m
-ReadsThin bytes None = (m : Module) → Thin bytes m → ⊥
+-- the forms are those of an accepted module
+pub record IsOfModule (forms : List AsmTerm) (m : Module) : Type 0 where
+  pub labels : ℕ
+  pub in_range : is_count labels ≡ true
+  pub are_of : AreOf forms labels m
+  pub accepted : Accepted m
 
--- a text is that of one plain module at most
-abbrev pub OneText : Type 0
-OneText =
-    (labels labels' : ℕ) (m n : Module) → is_count labels ≡ true → is_count labels' ≡ true → is_thin_module m ≡ true → is_thin_module n ≡ true
-    → text labels m ≡ text labels' n → m ≡ n
+-- the accepted module that the forms are of, or that there is none
+abbrev pub ReadsModule : List AsmTerm → Option Module → Type 0
+ReadsModule forms (Some m) = IsOfModule forms m
+ReadsModule forms None = (m : Module) → IsOfModule forms m → ⊥
 
--- and so the thin text of one module at most
-abbrev pub OneModule : Type 0
-OneModule = (bytes : List ℕ) (m n : Module) → Thin bytes m → Thin bytes n → m ≡ n
+-- the module whose source the bytes are, or that there is none, or the first form that does not read
+abbrev pub ReadsThin : List ℕ → Result (Option Module) TextFault → Type 0
+ReadsThin bytes (Ok (Some m)) = Thin bytes m
+ReadsThin bytes (Ok None) = IsNotBuilt bytes
+ReadsThin bytes (Err (fault.BadText form)) = FirstFault bytes form BadText
+ReadsThin bytes (Err (fault.TooDeep form)) = FirstFault bytes form TooDeep
+ReadsThin bytes (Err fault.NoMemory) = Unit {0}

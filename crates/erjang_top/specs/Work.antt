@@ -2,7 +2,10 @@
 use Rattle.std.specs.Prelude.{◌≡◌, ℕ, ◌<◌, ◌≤◌, List, [], ◌∷◌, ◌++◌, length, codes, None, Some, Result, Ok, Err, IsSomeAnd, string_bytes}
 use Rattle.std.specs.FinMap as files
 use Rattle.beam_code.specs.declared.module.Module.{Module}
-use Rattle.beam_code.specs.Thin.{Thin}
+use Rattle.asm_terms.specs.Forms as text
+use Rattle.asm_terms.specs.Forms.{FirstFault}
+use Rattle.asm_terms.specs.declared.fault.TextFault.{TextFault}
+use Rattle.asm_terms.specs.declared.fault.TextFault.TheVariants as text_fault
 use Rattle.ej_outside.specs.Counts.{Same, Rises}
 use Rattle.ej_outside.specs.Shelf.{ShelfState, GetsWith}
 use Rattle.ej_outside.specs.Sink.{SinkState}
@@ -14,8 +17,9 @@ use Rattle.erjang_top.specs.declared.compile.Refusal as code
 use Rattle.erjang_top.specs.declared.compile.Refusal.TheVariants as refusal
 use Rattle.erjang_top.specs.declared.compile.ReadyClass.{ReadyClass}
 use Rattle.erjang_top.specs.declared.words.CompileWords.{CompileWords}
-use Rattle.erjang_top.specs.Answers.{Refusal, Absent, Longer, NotBuilt, Refused, Unchanged, Compiled, PutFailed, Told, SameCounts, TookAll, TookFront, Says, cause_text, class_file, longest_file}
+use Rattle.erjang_top.specs.Answers.{Refusal, Absent, Longer, BadText, TooDeep, NotBuilt, Refused, Unchanged, Compiled, PutFailed, Told, SameCounts, TookAll, TookFront, Says, cause_text, class_file, longest_file}
 use Rattle.erjang_top.specs.Emitted.{Emitted}
+use Rattle.erjang_top.specs.Thin.{Thin, IsNotBuilt}
 use Rattle.erjang_top.specs.Words.{Compile}
 
 -- the words that a command's own hold
@@ -26,17 +30,29 @@ seen_words words = record { outdir = words.outdir.now; file = words.file.now }
 abbrev pub refusal_of : code.Refusal → Refusal
 refusal_of refusal.Absent = Absent
 refusal_of refusal.Longer = Longer
+refusal_of (refusal.BadText form) = BadText form
+refusal_of (refusal.TooDeep form) = TooDeep form
 refusal_of refusal.NotBuilt = NotBuilt
+
+-- a fault of a text, as one of the work
+abbrev pub fault_of : TextFault → Fault
+fault_of (text_fault.BadText form) = fault.Refused (refusal.BadText form)
+fault_of (text_fault.TooDeep form) = fault.Refused (refusal.TooDeep form)
+fault_of text_fault.NoMemory = fault.NoMemory
+
+-- the first fault of a source that is not read
+abbrev pub GetsFault : List ℕ → ShelfState → Fault → ShelfState → Type 0
+GetsFault file old (fault.Refused refusal.Absent) new = GetsWith old new (λ held. files.get held file ≡ None) Same Rises Same
+GetsFault file old (fault.Refused refusal.Longer) new = GetsWith old new (λ held. IsSomeAnd (files.get held file) (λ bytes. longest_file < length bytes)) Same Same Rises
+GetsFault file old (fault.Refused _) new = ⊥
+GetsFault file old fault.ReadFailed new = GetsWith old new (λ held. Unit {0}) Rises Same Same
+GetsFault file old fault.PutFailed new = ⊥
+GetsFault file old fault.NoMemory new = GetsWith old new (λ held. Unit {0}) Same Same Same
 
 -- a source that is read: its bytes, of which there are not too many, or the first of its faults
 abbrev pub GetsSource : {A : Type 0} → List ℕ → ShelfState → Result (Vec ℕ A) Fault → ShelfState → Type 0
 GetsSource file old (Ok v) new = GetsWith old new (λ held. (files.get held file ≡ Some v.items) × (length v.items ≤ longest_file)) Same Same Same
-GetsSource file old (Err (fault.Refused refusal.Absent)) new = GetsWith old new (λ held. files.get held file ≡ None) Same Rises Same
-GetsSource file old (Err (fault.Refused refusal.Longer)) new = GetsWith old new (λ held. IsSomeAnd (files.get held file) (λ bytes. longest_file < length bytes)) Same Same Rises
-GetsSource file old (Err (fault.Refused refusal.NotBuilt)) new = ⊥
-GetsSource file old (Err fault.ReadFailed) new = GetsWith old new (λ held. Unit {0}) Rises Same Same
-GetsSource file old (Err fault.PutFailed) new = ⊥
-GetsSource file old (Err fault.NoMemory) new = GetsWith old new (λ held. Unit {0}) Same Same Same
+GetsSource file old (Err fault) new = GetsFault file old fault new
 
 -- the class of a source, and the name of its file
 pub record IsClassOf (outdir source name class : List ℕ) : Type 0 where
@@ -48,7 +64,9 @@ pub record IsClassOf (outdir source name class : List ℕ) : Type 0 where
 -- what a source is built to: its class, or that it is refused, or that memory was wanting
 abbrev pub Builds : List ℕ → List ℕ → Result ReadyClass Fault → Type 0
 Builds outdir source (Ok class) = IsClassOf outdir source (string_bytes class.name) class.bytes.items
-Builds outdir source (Err (fault.Refused refusal.NotBuilt)) = (m : Module) → Thin source m → ⊥
+Builds outdir source (Err (fault.Refused (refusal.BadText form))) = FirstFault source form text.BadText
+Builds outdir source (Err (fault.Refused (refusal.TooDeep form))) = FirstFault source form text.TooDeep
+Builds outdir source (Err (fault.Refused refusal.NotBuilt)) = IsNotBuilt source
 Builds outdir source (Err (fault.Refused refusal.Absent)) = ⊥
 Builds outdir source (Err (fault.Refused refusal.Longer)) = ⊥
 Builds outdir source (Err fault.ReadFailed) = ⊥

@@ -4,7 +4,7 @@ use Rattle.std.specs.List.{AllByRecursion}
 use Rattle.beam_code.specs.Opcode.{Value}
 use Rattle.beam_code.specs.declared.module.Function.{Function}
 use Rattle.beam_code.specs.declared.module.Module.{Module}
-use Rattle.beam_code.specs.Thin.{is_thin_module}
+use Rattle.beam_code.specs.Accepted.{is_thin_module}
 use Rattle.erjang_top.specs.declared.emit.constant.Constant as written_constant
 use Rattle.erjang_top.specs.declared.emit.constant.Constant.TheVariants as entry
 use Rattle.erjang_top.specs.declared.emit.method.Method as written_method

@@ -1,10 +1,11 @@
 //! Which modules are compiled: the checks, one by one.
 
 ghost use Rattle.std.specs.Prelude.{◌↔◌, IsTrue, IfOk};
-ghost use Rattle.beam_code.specs.Thin.{Accepted};
+ghost use Rattle.beam_code.specs.Accepted.{Accepted};
 
 mod keys;
 mod labels;
+mod names;
 mod plain;
 mod slots;
 mod weights;

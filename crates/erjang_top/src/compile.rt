@@ -8,7 +8,7 @@ use crate::emit::emit;
 use crate::mangle::mangle;
 use crate::source::read_thin;
 use crate::words::CompileWords;
-use beam_code::Module;
+use asm_terms::TextFault;
 use ej_outside::{Failed, Got, Shelf, ShelfFault};
 use ej_term::Text;
 use std::alloc::{AllocError, Global};
@@ -23,7 +23,11 @@ pub(crate) enum Refusal {
     Absent,
     /// There is one, with too many bytes.
     Longer,
-    /// Its bytes are the text of no module that is compiled.
+    /// That form of its text does not read.
+    BadText { form: usize },
+    /// That form of its text has more than 256 tuples, lists and maps open at some place.
+    TooDeep { form: usize },
+    /// Its forms are those of no module that is compiled.
     NotBuilt,
 }
 
@@ -48,6 +52,21 @@ impl From<AllocError> for Fault {
 
     fn from(_: AllocError) -> Fault {
         Fault::NoMemory
+    }
+}
+
+impl From<TextFault> for Fault {
+    ghost use Rattle.std.specs.Prelude.{◌≡◌};
+    ghost use Rattle.erjang_top.specs.Work.{fault_of};
+
+    ghost from_gives = { λ text fault. fault ≡ fault_of text };
+
+    fn from(text: TextFault) -> Fault {
+        match text {
+            TextFault::BadText { form } => Fault::Refused(Refusal::BadText { form }),
+            TextFault::TooDeep { form } => Fault::Refused(Refusal::TooDeep { form }),
+            TextFault::NoMemory => Fault::NoMemory,
+        }
     }
 }
 

@@ -1,7 +1,7 @@
 //! Writes the class of a module.
 
 ghost use Rattle.std.specs.Prelude.{IfOk};
-ghost use Rattle.beam_code.specs.Thin.{Accepted};
+ghost use Rattle.beam_code.specs.Accepted.{Accepted};
 ghost use Rattle.erjang_top.specs.Emitted.{Emitted};
 
 mod bytes;

@@ -14,11 +14,12 @@ use std::alloc::Global;
 ///
 /// `compile OUTDIR FILE`, with no empty word, puts the class of the source FILE under `OUTDIR/NAME.class`, where
 /// NAME is the mangled name of its module. It takes all its memory before the put, and writes nothing on `out`.
+/// K is the count of whole forms before the first one that does not read.
 ///
 /// | Status | Cause | Line on `err` |
 /// |---|---|---|
 /// | 0 | the class stands | none |
-/// | 1 | FILE is refused | `FILE: absent`, `FILE: longer than 67108864 bytes` or `FILE: not built` |
+/// | 1 | FILE is refused | `FILE: absent`, `FILE: longer than 67108864 bytes`, `FILE: form K: bad text`, `FILE: form K: too deep` or `FILE: not built` |
 /// | 2 | other words | how the program is used |
 /// | 3 | FILE could not be read | `FILE: read failed` |
 /// | 4 | the put failed, or a write on `err` | none, or a front of one of those |

@@ -1,11 +1,12 @@
 //! What is said of an outcome, and its status.
 
-ghost use Rattle.std.specs.Prelude.{◌≡◌, ℕ, List, [], ◌∷◌, ◌++◌};
-ghost use Rattle.erjang_top.specs.Answers.{Says, cause_text, usage_line};
+ghost use Rattle.std.specs.Prelude.{[], ◌∷◌, ◌++◌, codes};
+ghost use Rattle.erjang_top.specs.Answers.{Says, cause_text, form_text, usage_line};
 ghost use Rattle.erjang_top.specs.Work.{WritesAll, Reports, refusal_of};
 
 use crate::compile::{Fault, Refusal};
 use ej_outside::{Failed, Sink};
+use itoa::Buffer;
 
 /// The class stands.
 const DONE: u8 = 0;
@@ -39,23 +40,44 @@ fn write_all<E: Sink>(err: &mut E, piece: &[u8]) -> Result<(), Failed>
     Ok(())
 }
 
-/// Writes what is said about a file, and a newline.
-fn write_message<E: Sink>(err: &mut E, file: &str, cause: &str) -> Result<(), Failed>
-    ensures { WritesAll (E.state err.old) (file.now ++ cause.now ++ 10 ∷ []) result (E.state err.new) }
+/// Writes what is said of a form.
+fn write_form_cause<E: Sink>(err: &mut E, form: usize, cause: &[u8]) -> Result<(), Failed>
+    ensures { WritesAll (E.state err.old) (form_text form cause.now) result (E.state err.new) }
+{
+    let mut number = Buffer::new();
+    write_all(err, b": form ")?;
+    write_all(err, number.format(form).as_bytes())?;
+    write_all(err, cause)
+}
+
+/// Writes what is said of a refusal, after the file's name.
+fn write_cause<E: Sink>(err: &mut E, refusal: Refusal) -> Result<(), Failed>
+    ensures { WritesAll (E.state err.old) (cause_text (refusal_of refusal)) result (E.state err.new) }
+{
+    match refusal {
+        Refusal::Absent => write_all(err, b": absent"),
+        Refusal::Longer => write_all(err, b": longer than 67108864 bytes"),
+        Refusal::BadText { form } => write_form_cause(err, form, b": bad text"),
+        Refusal::TooDeep { form } => write_form_cause(err, form, b": too deep"),
+        Refusal::NotBuilt => write_all(err, b": not built"),
+    }
+}
+
+/// Writes why a file is refused, and a newline.
+fn write_refusal<E: Sink>(err: &mut E, file: &str, refusal: Refusal) -> Result<(), Failed>
+    ensures { WritesAll (E.state err.old) (file.now ++ cause_text (refusal_of refusal) ++ 10 ∷ []) result (E.state err.new) }
 {
     write_all(err, file.as_bytes())?;
-    write_all(err, cause.as_bytes())?;
+    write_cause(err, refusal)?;
     write_all(err, b"\n")
 }
 
-/// Says something about a file: the status, or that of a write fault.
-fn say<E: Sink>(err: &mut E, file: &str, cause: &str, status: u8) -> u8
-    ensures { Says status (file.now ++ cause.now ++ 10 ∷ []) result (E.state err.old) (E.state err.new) }
+/// Writes that a file could not be read, and a newline.
+fn write_read_failed<E: Sink>(err: &mut E, file: &str) -> Result<(), Failed>
+    ensures { WritesAll (E.state err.old) (file.now ++ codes ": read failed" ++ 10 ∷ []) result (E.state err.new) }
 {
-    match write_message(err, file, cause) {
-        Ok(()) => status,
-        Err(Failed) => WRITE_FAULT,
-    }
+    write_all(err, file.as_bytes())?;
+    write_all(err, b": read failed\n")
 }
 
 /// Says how the program is used.
@@ -70,14 +92,23 @@ pub(crate) fn usage<E: Sink>(err: &mut E) -> u8
     }
 }
 
-/// What is said of a refusal, after the file's name.
-fn cause_text(refusal: Refusal) -> &'static str
-    ensures { result.now ≡ cause_text (refusal_of refusal) }
+/// Says why a file is refused: the status, or that of a write fault.
+fn say_refusal<E: Sink>(err: &mut E, file: &str, refusal: Refusal) -> u8
+    ensures { Says 1 (file.now ++ cause_text (refusal_of refusal) ++ 10 ∷ []) result (E.state err.old) (E.state err.new) }
 {
-    match refusal {
-        Refusal::Absent => ": absent",
-        Refusal::Longer => ": longer than 67108864 bytes",
-        Refusal::NotBuilt => ": not built",
+    match write_refusal(err, file, refusal) {
+        Ok(()) => REFUSED,
+        Err(Failed) => WRITE_FAULT,
+    }
+}
+
+/// Says that a file could not be read: the status, or that of a write fault.
+fn say_read_failed<E: Sink>(err: &mut E, file: &str) -> u8
+    ensures { Says 3 (file.now ++ codes ": read failed" ++ 10 ∷ []) result (E.state err.old) (E.state err.new) }
+{
+    match write_read_failed(err, file) {
+        Ok(()) => READ_FAULT,
+        Err(Failed) => WRITE_FAULT,
     }
 }
 
@@ -87,8 +118,8 @@ pub(crate) fn report<E: Sink>(err: &mut E, file: &str, outcome: Result<(), Fault
 {
     match outcome {
         Ok(()) => DONE,
-        Err(Fault::Refused(refusal)) => say(err, file, cause_text(refusal), REFUSED),
-        Err(Fault::ReadFailed) => say(err, file, ": read failed", READ_FAULT),
+        Err(Fault::Refused(refusal)) => say_refusal(err, file, refusal),
+        Err(Fault::ReadFailed) => say_read_failed(err, file),
         Err(Fault::PutFailed) => WRITE_FAULT,
         Err(Fault::NoMemory) => NO_MEMORY,
     }

@@ -1,40 +1,41 @@
-//! Reads a source: a module, from its text in canonical print.
+//! Reads a source: a module, from the text of its forms.
 //!
-//! The reader takes the text apart leniently, into the words of its lines, reads a form from each line, and then
-//! prints what it read and compares: so whatever it answers has those very bytes as its text. What it read is a
-//! module where its keys are in order, and is answered where it meets every rule.
+//! The text is read as terms, each term as a form, and the forms are taken apart into the functions and the other
+//! parts of a module. They are a module where its keys are in order, and it is answered where it meets every rule.
 
-ghost use Rattle.std.specs.Prelude.{◌≡◌, [], List, IfOk, true, map};
-ghost use Rattle.std.specs.List.{list_all};
-ghost use Rattle.erjang_top.specs.Lines.{lines_from};
-ghost use Rattle.erjang_top.specs.Rows.{form_words, is_plain_form, is_thin_form};
-ghost use Rattle.erjang_top.specs.Source.{ReadsText, ReadsThin, IsModuleOf};
-ghost use Rattle.erjang_top.specs.declared.source.form.Form.{Form as FormOf};
+ghost use Rattle.std.specs.Prelude.{IfOk};
+ghost use Rattle.erjang_top.specs.Source.{ReadsThin, ReadsModule, ReadsParts, IsModuleOf};
 
 mod form;
+mod forms;
 mod functions;
-mod lines;
-pub(crate) mod names;
+mod operands;
 mod parts;
-mod read;
-mod text;
 
 use crate::accept::{accepts, exports_functions, has_distinct_keys};
+use asm_terms::{TextFault, read_forms};
 use beam_code::Module;
-use form::Form;
-use lines::lines;
+use ej_term::AsmTerm;
+use forms::forms;
 use parts::{Parts, take_apart};
-use read::read_forms;
-use sqlite_items::Items;
 use std::alloc::{AllocError, Global};
-use text::text;
 
-/// The module whose thin text the bytes are; none where no module has them as its thin text. The error says that
-/// memory was wanting.
-pub(crate) fn read_thin(alloc: Global, bytes: &[u8]) -> Result<Option<Module>, AllocError>
-    ensures { IfOk result (ReadsThin bytes.now) }
+/// The module whose source the bytes are; none where they have forms, and are the source of no module.
+///
+/// # Errors
+/// The first form that does not read, and why, or that memory was wanting.
+pub(crate) fn read_thin(alloc: Global, bytes: &[u8]) -> Result<Option<Module>, TextFault>
+    ensures { ReadsThin bytes.now result }
 {
-    let Some(parts) = read_parts(alloc, bytes)? else {
+    let terms = read_forms(alloc, bytes)?;
+    Ok(read_module(alloc, terms.as_slice())?)
+}
+
+// The accepted module whose forms these are; none where they are those of none.
+fn read_module(alloc: Global, terms: &[AsmTerm]) -> Result<Option<Module>, AllocError>
+    ensures { IfOk result (ReadsModule terms.now) }
+{
+    let Some(parts) = read_parts(alloc, terms)? else {
         return Ok(None);
     };
     let Some(module) = module_of(alloc, parts)? else {
@@ -63,23 +64,10 @@ fn module_of(alloc: Global, parts: Parts) -> Result<Option<Module>, AllocError>
     }))
 }
 
-// The parts of the module text that the bytes are; none where they are the text of no plain module.
-fn read_parts(alloc: Global, bytes: &[u8]) -> Result<Option<Parts>, AllocError>
-    ensures { IfOk result (ReadsText bytes.now) }
+// The parts that the forms are of; none where they are the forms of no plain module.
+fn read_parts(alloc: Global, terms: &[AsmTerm]) -> Result<Option<Parts>, AllocError>
+    ensures { IfOk result (ReadsParts terms.now) }
 {
-    let forms = forms(alloc, bytes)?;
-    let text = text(alloc, forms.as_slice())?;
-    if text.as_bytes() != bytes {
-        return Ok(None);
-    }
+    let forms = forms(alloc, terms)?;
     take_apart(alloc, forms.as_slice())
-}
-
-// The forms of a text; where it is no forms' text, any forms.
-fn forms(alloc: Global, bytes: &[u8]) -> Result<Items<Form>, AllocError>
-    ensures reads { (forms : List FormOf) → list_all is_thin_form forms ≡ true → lines_from [] [] bytes.now ≡ map form_words forms → IfOk result (λ read. read ≡ forms) }
-    ensures plain { IfOk result (λ read. list_all is_plain_form read ≡ true) }
-{
-    let lines = lines(alloc, bytes)?;
-    read_forms(alloc, lines.as_slice())
 }

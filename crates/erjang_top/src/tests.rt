@@ -135,16 +135,35 @@ fn refuses_what_is_not_there(rt: HostRuntime) -> Result<(), Fail> {
     Ok(())
 }
 
+// The plainest source in other ways: spaces, comments and line breaks, quotes and escapes, zeros before a number, bytes
+// that are no UTF-8 and some that are, and no line break at the end.
+const OTHER_WAYS: [&[u8]; 5] = [
+    b"% {module,n}.\n { module , m } .% the name\n\t{exports,[ {f,\n1} ]}.\r\n\x0c{attributes,[\x0b]}. {labels,3}.\n\n{function,f\n,1,2}.\n{label,1}.\n{func_info,{atom,m},{atom,f},1}. {label,2}.\nreturn.% .",
+    b"{'module','m'}.\n{exports,[{'\\x66',1}]}.\n{'attributes',[]}.\n{labels,3}.\n{function,'\\146',1,2}.\n{label,1}.\n{func_info,{atom,'\\x{6D}'},{atom,f},1}.\n{label,2}.\n'return'.\n",
+    b"{module,m}.\n{exports,[{f,01}]}.\n{attributes,[]}.\n{labels,0003}.\n{function,f,1,2}.\n{label,1}.\n{func_info,{atom,m},{atom,f},1}.\n{label,2}.\nreturn.\n",
+    b"% \xe9\n{module,m}.\n{exports,[{f,1}]}.\n{attributes,[]}.\n{labels,3}.\n{function,f,1,2}.\n{label,1}.\n{func_info,{atom,m},{atom,f},1}.\n{label,2}.\nreturn.\n",
+    b"% \xc3\xa9\n{module,m}.\n{exports,[{f,1}]}.\n{attributes,[]}.\n{labels,3}.\n{function,f,1,2}.\n{label,1}.\n{func_info,{atom,m},{atom,f},1}.\n{label,2}.\nreturn.",
+];
+
 #[test]
-fn refuses_what_is_no_text_of_a_module(rt: HostRuntime) -> Result<(), Fail> {
-    let sources: [&[u8]; 14] = [
+fn compiles_the_plainest_source_in_other_ways(rt: HostRuntime) -> Result<(), Fail> {
+    let alloc = rt.alloc();
+    for source in OTHER_WAYS {
+        let ran = run(alloc, &["compile", "o", NAME], source, Vec::new(alloc))?;
+        assert_eq!(rt; ran.status, 0, "{source:?}");
+        assert_eq!(rt; ran.shelf.held("o/m.class"), Some(CLASS.as_slice()));
+    }
+    Ok(())
+}
+
+#[test]
+fn refuses_what_is_no_source_of_a_module(rt: HostRuntime) -> Result<(), Fail> {
+    let sources: [&[u8]; 13] = [
         b"",
-        b"\xff",
+        b"% nothing\n",
         b"{module,m}.\n",
         // no function
         b"{module,m}.\n{exports,[]}.\n{attributes,[]}.\n{labels,3}.\n",
-        // a space
-        b"{module, m}.\n{exports,[{f,1}]}.\n{attributes,[]}.\n{labels,3}.\n{function,f,1,2}.\n{label,1}.\n{func_info,{atom,m},{atom,f},1}.\n{label,2}.\nreturn.\n",
         // an export of no function, of no function of that arity
         b"{module,m}.\n{exports,[{g,1}]}.\n{attributes,[]}.\n{labels,3}.\n{function,f,1,2}.\n{label,1}.\n{func_info,{atom,m},{atom,f},1}.\n{label,2}.\nreturn.\n",
         b"{module,m}.\n{exports,[{f,2}]}.\n{attributes,[]}.\n{labels,3}.\n{function,f,1,2}.\n{label,1}.\n{func_info,{atom,m},{atom,f},1}.\n{label,2}.\nreturn.\n",
@@ -157,17 +176,61 @@ fn refuses_what_is_no_text_of_a_module(rt: HostRuntime) -> Result<(), Fail> {
         b"{module,m}.\n{exports,[{f,1}]}.\n{attributes,[]}.\n{labels,3}.\n{function,f,1,3}.\n{label,1}.\n{func_info,{atom,m},{atom,f},1}.\n{label,2}.\nreturn.\n",
         // a word that is reserved
         b"{module,end}.\n{exports,[{f,1}]}.\n{attributes,[]}.\n{labels,3}.\n{function,f,1,2}.\n{label,1}.\n{func_info,{atom,end},{atom,f},1}.\n{label,2}.\nreturn.\n",
-        // a number with a zero before it
-        b"{module,m}.\n{exports,[{f,1}]}.\n{attributes,[]}.\n{labels,03}.\n{function,f,1,2}.\n{label,1}.\n{func_info,{atom,m},{atom,f},1}.\n{label,2}.\nreturn.\n",
+        // no integer of 64 bits
+        b"{module,m}.\n{exports,[{f,1}]}.\n{attributes,[]}.\n{labels,99999999999999999999}.\n{function,f,1,2}.\n{label,1}.\n{func_info,{atom,m},{atom,f},1}.\n{label,2}.\nreturn.\n",
         // 256 arguments
         b"{module,m}.\n{exports,[{f,256}]}.\n{attributes,[]}.\n{labels,3}.\n{function,f,256,2}.\n{label,1}.\n{func_info,{atom,m},{atom,f},256}.\n{label,2}.\nreturn.\n",
     ];
     for source in sources {
         expect_line(&rt, &["compile", "o", NAME], source, 1, b"m.S: not built\n")?;
     }
-    for cut in 0..SOURCE.len() {
-        let (front, _) = SOURCE.as_bytes().split_at(cut);
-        expect_line(&rt, &["compile", "o", NAME], front, 1, b"m.S: not built\n")?;
+    Ok(())
+}
+
+#[test]
+fn names_the_first_form_that_is_bad_text(rt: HostRuntime) -> Result<(), Fail> {
+    let sources: [(&[u8], &[u8]); 9] = [
+        (b"{module,m}.\n{exports,[", b"m.S: form 1: bad text\n"),
+        (b"\xff", b"m.S: form 0: bad text\n"),
+        (b"\x01", b"m.S: form 0: bad text\n"),
+        (b"{module,m}", b"m.S: form 0: bad text\n"),
+        (b"{module,m}.{exports,[]}.\n", b"m.S: form 0: bad text\n"),
+        (b"{module,}.\n{exports,[}.\n", b"m.S: form 0: bad text\n"),
+        (b"{module,'m\\^'}.\n", b"m.S: form 0: bad text\n"),
+        (
+            b"a. a. a. a. a. a. a. a. a. a. a. b b. ]. ",
+            b"m.S: form 11: bad text\n",
+        ),
+        (b"{module,m}.\n% }\n.", b"m.S: form 1: bad text\n"),
+    ];
+    for (source, line) in sources {
+        expect_line(&rt, &["compile", "o", NAME], source, 1, line)?;
+    }
+    Ok(())
+}
+
+// That many opening square brackets, as many closing ones, and a full stop.
+fn nested(alloc: Global, depth: usize) -> Result<Vec<u8>, AllocError> {
+    let mut source = Vec::new(alloc);
+    for _at in 0..depth {
+        source.push(b'[')?;
+    }
+    for _at in 0..depth {
+        source.push(b']')?;
+    }
+    source.push(b'.')?;
+    Ok(source)
+}
+
+#[test]
+fn tells_a_form_that_is_too_deep(rt: HostRuntime) -> Result<(), Fail> {
+    let lines: [(usize, &[u8]); 2] = [
+        (256, b"m.S: not built\n"),
+        (257, b"m.S: form 0: too deep\n"),
+    ];
+    for (depth, line) in lines {
+        let source = nested(rt.alloc(), depth)?;
+        expect_line(&rt, &["compile", "o", NAME], source.as_slice(), 1, line)?;
     }
     Ok(())
 }
@@ -225,8 +288,8 @@ fn compiles_what_holds_its_terms(rt: HostRuntime) -> Result<(), Fail> {
         ("{move,{integer,9223372036854775808},{x,0}}.\nreturn.\n", 1),
         ("{move,{integer,-9223372036854775808},{x,0}}.\nreturn.\n", 0),
         ("{move,{integer,-9223372036854775809},{x,0}}.\nreturn.\n", 1),
-        // no integer, no plain atom, and no x register
-        ("{move,{integer,-0},{x,0}}.\nreturn.\n", 1),
+        // zero with a sign, no plain atom, and no x register
+        ("{move,{integer,-0},{x,0}}.\nreturn.\n", 0),
         ("{move,{atom,end},{x,0}}.\nreturn.\n", 1),
         ("{move,{y,0},{x,0}}.\nreturn.\n", 1),
     ];

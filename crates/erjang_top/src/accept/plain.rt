@@ -3,11 +3,11 @@
 ghost use Rattle.std.specs.Prelude.{◌≡◌, map};
 ghost use Rattle.std.specs.List.{list_all};
 ghost use Rattle.beam_code.specs.Forms.{opcode};
-ghost use Rattle.beam_code.specs.Thin.{is_thin_name, is_thin_opcode, is_thin_source, is_thin_function, is_thin_module};
+ghost use Rattle.beam_code.specs.Accepted.{is_thin_name, is_thin_opcode, is_thin_source, is_thin_function, is_thin_module};
 ghost use Rattle.erjang_top.specs.Code.{seen_code, seen_source};
 
+use crate::accept::names::is_thin_name as is_thin_text;
 use crate::code::{Code, Source, decode};
-use crate::source::names::is_thin_name as is_thin_text;
 use beam_code::{Function, Instr, Module};
 use ej_term::Text;
 

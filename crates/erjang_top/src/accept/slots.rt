@@ -5,7 +5,7 @@ ghost use Rattle.std.specs.List.{list_all};
 ghost use Rattle.std.specs.Option.{option_map};
 ghost use Rattle.beam_code.specs.Forms.{opcode};
 ghost use Rattle.beam_code.specs.Opcode.{Opcode, Move};
-ghost use Rattle.beam_code.specs.Thin.{is_thin_function, is_thin_opcode, is_thin_source};
+ghost use Rattle.beam_code.specs.Accepted.{is_thin_function, is_thin_opcode, is_thin_source};
 ghost use Rattle.erjang_top.specs.Code.{seen_code, seen_source};
 ghost use Rattle.erjang_top.specs.Flow.{is_held as reads_from, with_register, flows};
 ghost use Rattle.erjang_top.specs.SlotCheck.{defines_label as is_definition, behind as code_behind, passes, holds};

@@ -2,7 +2,7 @@
 
 ghost use Rattle.std.specs.Prelude.{◌≡◌, ◌+◌, ◌*◌, ◌++◌, ◌<◌, ◌^◌, true, length, map, OnOk};
 ghost use Rattle.std.specs.List.{flat_map};
-ghost use Rattle.beam_code.specs.Thin.{is_thin_function};
+ghost use Rattle.beam_code.specs.Accepted.{is_thin_function};
 ghost use Rattle.erjang_top.specs.ClassFile.{u2, code_content, method_bytes};
 ghost use Rattle.erjang_top.specs.ModuleClass.{first_value, first_name, constants, methods_of};
 ghost use Rattle.erjang_top.specs.SeenValues.{seen_value};

@@ -3,7 +3,7 @@
 ghost use Rattle.std.specs.Prelude.{◌≡◌, ◌∷◌, [], ◌++◌, ◌+◌, ◌*◌, ◌<◌, ◌^◌, true, length, map, OnOk};
 ghost use Rattle.std.specs.List.{flat_map, AllByRecursion};
 ghost use Rattle.beam_code.specs.Opcode.{Of};
-ghost use Rattle.beam_code.specs.Thin.{is_thin_source, is_thin_function};
+ghost use Rattle.beam_code.specs.Accepted.{is_thin_source, is_thin_function};
 ghost use Rattle.erjang_top.specs.ClassFile.{Utf8, StringEntry, u2, constant_bytes};
 ghost use Rattle.erjang_top.specs.ModuleClass.{first_value, fixed_entries, value_entries, values_entries, name_entry, constants, first_name, pool_of};
 ghost use Rattle.erjang_top.specs.SeenValues.{seen_value};

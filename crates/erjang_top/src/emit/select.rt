@@ -5,7 +5,7 @@ ghost use Rattle.std.specs.List.{flat_map, AllByRecursion};
 ghost use Rattle.beam_code.specs.Forms.{opcode};
 ghost use Rattle.beam_code.specs.LabelRules.{opcodes};
 ghost use Rattle.beam_code.specs.Opcode.{Integer};
-ghost use Rattle.beam_code.specs.Thin.{is_register, is_thin_source, is_thin_opcode};
+ghost use Rattle.beam_code.specs.Accepted.{is_register, is_thin_source, is_thin_opcode};
 ghost use Rattle.erjang_top.specs.ClassFile.{LdcW, Invoke, op_bytes};
 ghost use Rattle.erjang_top.specs.ModuleClass.{first_value, local_of, take_argument, take_arguments, index_of, push_value, push_source, move_ops, is_entry, behind, body, body_ops, function_ops, registers};
 ghost use Rattle.erjang_top.specs.Code.{seen_source};

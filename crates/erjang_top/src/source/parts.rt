@@ -2,7 +2,7 @@
 
 ghost use Rattle.std.specs.Prelude.{◌≡◌, ℕ, List, IfOk, IfSome, IfNone, true};
 ghost use Rattle.beam_code.specs.Keys.{Key};
-ghost use Rattle.beam_code.specs.Thin.{is_count};
+ghost use Rattle.beam_code.specs.Accepted.{is_count};
 ghost use Rattle.beam_code.specs.declared.module.Function.{Function as FunctionOf};
 ghost use Rattle.erjang_top.specs.Rows.{rows_of};
 

@@ -1,6 +1,6 @@
 use Rattle.std.proofs.Common.{sym, ap, ◌∙◌}
 use Rattle.std.specs.List.{list_all}
-use Rattle.beam_code.specs.Thin.{is_thin_function}
+use Rattle.beam_code.specs.Accepted.{is_thin_function}
 use Rattle.erjang_top.specs.SlotCheck.{passes}
 use Rattle.erjang_top.proofs.AcceptedLaw.{refused, slots-pass, functions-plain, all-decided}
 use Rattle.erjang_top.proofs.accept.accepts.Goals as goal

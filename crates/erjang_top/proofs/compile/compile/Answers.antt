@@ -1,7 +1,10 @@
-use Rattle.erjang_top.proofs.Worked.{work_done, work_put_failed, work_not_built, work_passed_on}
+use Rattle.erjang_top.proofs.Worked.{work_done, work_put_failed, work_not_got, work_not_built, work_passed_on}
 use Rattle.std.proofs.Common.{ℕ, List, Err, subst}
 use Rattle.erjang_top.specs.Work.{seen_words, Builds}
 use Rattle.erjang_top.proofs.compile.compile.Goals as goal
+
+pub returns-in_err-source : goal.returns-in_err-source
+returns-in_err-source g c = work_passed_on _ _ _ _ _ c.from_residual.ensures.1 (work_not_got (seen_words c.args.words) _ _ _ c.in_err-source.ensures)
 
 pub returns-in_err-class : goal.returns-in_err-class
 returns-in_err-class g c =

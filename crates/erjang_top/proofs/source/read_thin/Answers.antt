@@ -1,5 +1,9 @@
-use Rattle.erjang_top.proofs.ReadLemmas.{no-module}
+use Rattle.erjang_top.specs.Source.{ReadsModule}
+use Rattle.std.proofs.Common.{subst}
+use Rattle.erjang_top.proofs.ReadLemmas.{source-read}
 use Rattle.erjang_top.proofs.source.read_thin.Goals as goal
 
-pub returns-in_default-2 : goal.returns-in_default-2
-returns-in_default-2 c = no-module c.args.bytes.now c.in_ok-parts.field-0 c.in-Some.parts c.in_ok-module.field-0 c.in_ok-parts.ensures c.in-Some.is c.in_ok-module.ensures c.in_default-2.is
+pub returns : goal.returns
+returns c =
+    let read = subst (λ terms. ReadsModule terms c.in_ok-read_module.field-0) c.as_slice.ensures.value c.in_ok-read_module.ensures in
+    source-read c.args.bytes.now c.in_ok-terms.terms.items c.in_ok-read_module.field-0 c.in_ok-terms.ensures.reads read

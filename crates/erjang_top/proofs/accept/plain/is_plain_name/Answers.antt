@@ -1,5 +1,5 @@
 use Rattle.std.proofs.Common.{ap, ◌∙◌}
-use Rattle.beam_code.specs.Thin.{is_thin_name}
+use Rattle.beam_code.specs.Accepted.{is_thin_name}
 use Rattle.erjang_top.proofs.PlainBytes.{thin-chars}
 use Rattle.erjang_top.proofs.accept.plain.is_plain_name.Goals as goal
 

@@ -1,5 +1,5 @@
 use Rattle.std.proofs.Common.{sym, ◌∙◌}
-use Rattle.beam_code.specs.Thin.{is_thin_function}
+use Rattle.beam_code.specs.Accepted.{is_thin_function}
 use Rattle.erjang_top.specs.SlotCheck.{passes}
 use Rattle.erjang_top.proofs.Dropped.{all-more, all-here}
 use Rattle.erjang_top.proofs.accept.slots.are_well_slotted.Goals as goal

@@ -1,5 +1,5 @@
 use Rattle.std.proofs.Common.{None, ap, ◌∙◌}
-use Rattle.beam_code.specs.Thin.{is_thin_opcode}
+use Rattle.beam_code.specs.Accepted.{is_thin_opcode}
 use Rattle.erjang_top.specs.Code.{seen_code}
 use Rattle.erjang_top.specs.SlotCheck.{holds}
 use Rattle.erjang_top.proofs.SlotSteps.{here, later, goes-on}

@@ -1,6 +1,6 @@
 use Rattle.std.proofs.Common.{◌≡◌, true, map, length, subst, sym, ap, ◌∙◌, arith}
 use Rattle.std.specs.List.{AllByRecursion}
-use Rattle.beam_code.specs.Thin.{is_thin_function}
+use Rattle.beam_code.specs.Accepted.{is_thin_function}
 use Rattle.erjang_top.specs.ModuleClass.{constants, first_name}
 use Rattle.erjang_top.specs.SeenValues.{seen_value}
 use Rattle.erjang_top.proofs.Appends.{next_all}

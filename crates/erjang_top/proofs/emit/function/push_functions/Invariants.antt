@@ -1,6 +1,6 @@
 use Rattle.std.proofs.Common.{◌≡◌, ◌+◌, ◌++◌, true, length, drop}
 use Rattle.std.specs.List.{flat_map, AllByRecursion}
-use Rattle.beam_code.specs.Thin.{is_thin_function}
+use Rattle.beam_code.specs.Accepted.{is_thin_function}
 use Rattle.erjang_top.specs.ClassFile.{u2, method_bytes}
 use Rattle.erjang_top.specs.ModuleClass.{constants, first_name, methods_of}
 use Rattle.erjang_top.proofs.ClassSteps.{FitsContent}

@@ -1,5 +1,5 @@
 use Rattle.std.proofs.Common.{◌≡◌, true}
-use Rattle.beam_code.specs.Thin.{is_thin_function}
+use Rattle.beam_code.specs.Accepted.{is_thin_function}
 use Rattle.erjang_top.specs.ClassFile.{constant_bytes}
 use Rattle.erjang_top.specs.ModuleClass.{name_entry}
 use Rattle.erjang_top.proofs.Appends.{step_written, next_all}

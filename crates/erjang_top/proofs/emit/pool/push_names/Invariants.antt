@@ -1,6 +1,6 @@
 use Rattle.std.proofs.Common.{◌≡◌, ◌++◌, true, map, drop}
 use Rattle.std.specs.List.{flat_map, AllByRecursion}
-use Rattle.beam_code.specs.Thin.{is_thin_function}
+use Rattle.beam_code.specs.Accepted.{is_thin_function}
 use Rattle.erjang_top.specs.ClassFile.{constant_bytes}
 use Rattle.erjang_top.specs.ModuleClass.{name_entry}
 use Rattle.erjang_top.proofs.emit.pool.push_names.Given as goal

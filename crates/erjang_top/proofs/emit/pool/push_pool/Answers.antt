@@ -1,6 +1,6 @@
 use Rattle.std.proofs.Common.{◌≡◌, true, subst, sym, ap, ◌+◌, length, ◌∙◌, arith}
 use Rattle.std.specs.List.{AllByRecursion}
-use Rattle.beam_code.specs.Thin.{is_thin_function}
+use Rattle.beam_code.specs.Accepted.{is_thin_function}
 use Rattle.erjang_top.specs.ModuleClass.{constants, first_name}
 use Rattle.erjang_top.proofs.Plain.{functions_plain, class_name_short}
 use Rattle.erjang_top.proofs.ThinValues.{IsThinValue, thin-module}

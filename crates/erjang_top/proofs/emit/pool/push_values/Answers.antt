@@ -2,7 +2,7 @@ use Rattle.std.proofs.Common.{◌≡◌, true, arith}
 use Rattle.erjang_top.specs.SeenValues.{seen_value}
 use Rattle.erjang_top.proofs.Appends.{step_all}
 use Rattle.beam_code.specs.Opcode.{Of}
-use Rattle.beam_code.specs.Thin.{is_thin_source}
+use Rattle.beam_code.specs.Accepted.{is_thin_source}
 use Rattle.erjang_top.proofs.PoolSteps.{values-step}
 use Rattle.erjang_top.proofs.emit.pool.push_values.Goals as goal
 

@@ -1,7 +1,7 @@
 use Rattle.std.proofs.Common.{◌≡◌, ◌+◌, ◌*◌, ◌++◌, true, map, drop}
 use Rattle.std.specs.List.{flat_map, AllByRecursion}
 use Rattle.beam_code.specs.Opcode.{Of}
-use Rattle.beam_code.specs.Thin.{is_thin_source}
+use Rattle.beam_code.specs.Accepted.{is_thin_source}
 use Rattle.erjang_top.specs.ClassFile.{constant_bytes}
 use Rattle.erjang_top.specs.ModuleClass.{first_value, values_entries}
 use Rattle.erjang_top.specs.SeenValues.{seen_value}

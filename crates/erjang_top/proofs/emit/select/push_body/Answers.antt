@@ -1,6 +1,6 @@
 use Rattle.std.proofs.Common.{◌≡◌, true, map, sym, ◌∙◌}
 use Rattle.beam_code.specs.Forms.{opcode}
-use Rattle.beam_code.specs.Thin.{is_thin_opcode}
+use Rattle.beam_code.specs.Accepted.{is_thin_opcode}
 use Rattle.erjang_top.specs.SeenValues.{seen_value}
 use Rattle.erjang_top.proofs.Appends.{step_all}
 use Rattle.erjang_top.proofs.SelectSteps.{body-step}

@@ -1,6 +1,6 @@
 use Rattle.std.proofs.Common.{◌≡◌, true, ap, max, ◌∙◌, arith}
 use Rattle.beam_code.specs.Forms.{opcode}
-use Rattle.beam_code.specs.Thin.{is_thin_opcode}
+use Rattle.beam_code.specs.Accepted.{is_thin_opcode}
 use Rattle.erjang_top.proofs.Appends.{step_all}
 use Rattle.erjang_top.proofs.SelectSteps.{registers-step}
 use Rattle.erjang_top.proofs.emit.select.registers.Goals as goal

@@ -1,0 +1,16 @@
+pub mod Characters
+pub mod Runs
+pub mod Blanks
+pub mod Numbers
+pub mod Names
+pub mod Quotes
+pub mod Binaries
+pub mod Identifiers
+pub mod Tokens
+pub mod Reading
+pub mod Grammar
+pub mod Forms
+pub mod Stack
+pub mod TermReader
+pub mod FormRead
+pub mod Worked
