@@ -1,0 +1,11 @@
+pub mod Meanings
+pub mod Adding
+pub mod Made
+pub mod Apart
+pub mod Comparing
+pub mod Opening
+pub mod Stepping
+pub mod Putting
+pub mod Merging
+pub mod Mapped
+pub mod Kept

@@ -1,0 +1,137 @@
+-- What is added to a heap changes no earlier term.
+use Rattle.std.proofs.Common.{◌≡◌, ℕ, ◌+◌, ◌*◌, List, [], ◌∷◌, ◌++◌, length, map, slice_get, Option, Some, option_map, option_and_then, unwrap_or, refl, sym, ap, ap₂, subst, ◌∙◌, zero, suc, arith}
+use Rattle.std.specs.Prelude as std
+use Rattle.std.proofs.lemmas.Option.{none-some}
+use Rattle.std.proofs.lemmas.Grind.{common_steps}
+use Rattle.std.proofs.lemmas.List.{append-nil, append_assoc, length-append}
+use Rattle.std.proofs.Math.Nat.{add-zero}
+use Rattle.ej_term.specs.Term.{Term, Atom, Fun, Tuple, Cons, terms}
+use Rattle.ej_term.specs.AsmValue.{every}
+use Rattle.ej_term.proofs.Options.{mapped, chained, first-every}
+use Rattle.term_heap.specs.Cells.{run, terms_of, parts_of, both, all_three, map_of, meaning, meanings}
+use Rattle.term_heap.specs.declared.cell.TermId.{TermId}
+use Rattle.term_heap.specs.declared.cell.Cell.{Cell}
+use Rattle.term_heap.specs.declared.cell.Cell.TheVariants as c
+
+pub slice-more : {X : Type 0} (xs ys : List X) (i : ℕ) (x : X) → slice_get xs i ≡ Some x → slice_get (xs ++ ys) i ≡ Some x
+slice-more [] ys i x e = absurd (none-some x e)
+slice-more (a ∷ xs) ys zero x e = e
+slice-more (a ∷ xs) ys (suc i) x e = slice-more xs ys i x e
+
+pub run-more : {X : Type 0} (xs ys : List X) (first count : ℕ) (r : List X) → run xs first count ≡ Some r → run (xs ++ ys) first count ≡ Some r
+run-more xs ys first count r e = grind (arith, common_steps, e)
+
+pub both-parts : {X Y Z : Type 0} (f : X → Y → Z) (o : Option X) (p : Option Y) (z : Z) → both f o p ≡ Some z → (x : X) × (y : Y) × (o ≡ Some x) × (p ≡ Some y) × (f x y ≡ z)
+both-parts f std.None p z e = absurd (none-some z e)
+both-parts f (Some x) std.None z e = absurd (none-some z e)
+both-parts f (Some x) (Some y) z e = (x, y, refl, refl, ap (λ o. unwrap_or o z) e)
+
+pub both-is : {X Y Z : Type 0} (f : X → Y → Z) (o : Option X) (p : Option Y) (x : X) (y : Y) → o ≡ Some x → p ≡ Some y → both f o p ≡ Some (f x y)
+both-is f o p x y d e = ap (λ o. both f o p) d ∙ ap (both f (Some x)) e
+
+pub three-parts : {X Y Z W : Type 0} (f : X → Y → Z → W) (o : Option X) (p : Option Y) (q : Option Z) (w : W) → all_three f o p q ≡ Some w
+    → (x : X) × (y : Y) × (z : Z) × (o ≡ Some x) × (p ≡ Some y) × (q ≡ Some z) × (f x y z ≡ w)
+three-parts f std.None p q w e = absurd (none-some w e)
+three-parts f (Some x) std.None q w e = absurd (none-some w e)
+three-parts f (Some x) (Some y) std.None w e = absurd (none-some w e)
+three-parts f (Some x) (Some y) (Some z) w e = (x, y, z, refl, refl, refl, ap (λ o. unwrap_or o w) e)
+
+pub three-is : {X Y Z W : Type 0} (f : X → Y → Z → W) (o : Option X) (p : Option Y) (q : Option Z) (x : X) (y : Y) (z : Z) → o ≡ Some x → p ≡ Some y → q ≡ Some z → all_three f o p q ≡ Some (f x y z)
+three-is f o p q x y z d e g = ap (λ o. all_three f o p q) d ∙ ap (λ p. all_three f (Some x) p q) e ∙ ap (all_three f (Some x) (Some y)) g
+
+pub terms_of-more : (xs ys : List Term) (ids : List TermId) (ts : List Term) → terms_of xs ids ≡ Some ts → terms_of (xs ++ ys) ids ≡ Some ts
+terms_of-more xs ys [] ts e = e
+terms_of-more xs ys (id ∷ ids) ts e =
+    let f = first-every (slice_get xs id.0) _ ts e in
+    ap (λ o. every (o ∷ map (λ (i : TermId). slice_get (xs ++ ys) i.0) ids)) (slice-more xs ys id.0 f.0 f.2)
+    ∙ ap (option_map (◌∷◌ f.0)) (terms_of-more xs ys ids f.1 f.3)
+    ∙ ap Some f.4
+
+pub parts_of-more : (ps qs : List TermId) (xs ys : List Term) (first count : ℕ) (ts : List Term) → parts_of ps xs first count ≡ Some ts → parts_of (ps ++ qs) (xs ++ ys) first count ≡ Some ts
+parts_of-more ps qs xs ys first count ts e =
+    let f = chained (terms_of xs) (run ps first count) ts e in
+    ap (option_and_then (terms_of (xs ++ ys))) (run-more ps qs first count f.0 f.1) ∙ terms_of-more xs ys f.0 ts f.2
+
+pub option_map-is : {A B : Type 0} (f : A → B) (o : Option A) (a : A) → o ≡ Some a → option_map f o ≡ Some (f a)
+option_map-is f o a e = ap (option_map f) e
+
+pub meaning-more : (us bs : List (List ℕ)) (ps qs : List TermId) (xs ys : List Term) (cell : Cell) (t : Term) → meaning us ps xs cell ≡ Some t → meaning (us ++ bs) (ps ++ qs) (xs ++ ys) cell ≡ Some t
+meaning-more us bs ps qs xs ys (c.Int n) t e = e
+meaning-more us bs ps qs xs ys (c.Atom text) t e =
+    let m = mapped Atom (slice_get us text) t e in
+    option_map-is Atom _ m.0 (slice-more us bs text m.0 m.1) ∙ ap Some m.2
+meaning-more us bs ps qs xs ys c.Nil t e = e
+meaning-more us bs ps qs xs ys (c.Cons head tail) t e =
+    let m = both-parts Cons (slice_get xs head.0) (slice_get xs tail.0) t e in
+    both-is Cons _ _ m.0 m.1 (slice-more xs ys head.0 m.0 m.2) (slice-more xs ys tail.0 m.1 m.3) ∙ ap Some m.4
+meaning-more us bs ps qs xs ys (c.Tuple first count) t e =
+    let m = mapped (λ ts. Tuple (terms ts)) (parts_of ps xs first count) t e in
+    option_map-is (λ ts. Tuple (terms ts)) _ m.0 (parts_of-more ps qs xs ys first count m.0 m.1) ∙ ap Some m.2
+meaning-more us bs ps qs xs ys (c.Map first count) t e =
+    let m = mapped (map_of count) (parts_of ps xs first (2 * count)) t e in
+    option_map-is (map_of count) _ m.0 (parts_of-more ps qs xs ys first (2 * count) m.0 m.1) ∙ ap Some m.2
+meaning-more us bs ps qs xs ys (c.Fun local owner name arity first count) t e =
+    let m = three-parts (λ m f ts. Fun local m f arity (terms ts)) (slice_get us owner) (slice_get us name) (parts_of ps xs first count) t e in
+    three-is (λ m f ts. Fun local m f arity (terms ts)) _ _ _ m.0 m.1 m.2 (slice-more us bs owner m.0 m.3) (slice-more us bs name m.1 m.4) (parts_of-more ps qs xs ys first count m.2 m.5)
+    ∙ ap Some m.6
+meaning-more us bs ps qs xs ys (c.Pid node number) t e = e
+meaning-more us bs ps qs xs ys (c.Reference node number) t e = e
+
+pub length-every : {A : Type 0} (os : List (Option A)) (xs : List A) → every os ≡ Some xs → length xs ≡ length os
+length-every [] xs e = ap (λ o. length (unwrap_or o [])) (sym e)
+length-every (o ∷ os) xs e = let f = first-every o os xs e in ap length (sym f.4) ∙ ap suc (length-every os f.1 f.3)
+
+-- a cell behind the others
+pub meanings-push : (us : List (List ℕ)) (ps : List TermId) (xs : List Term) (cells : List Cell) (ts : List Term) (cell : Cell) (t : Term)
+    → meanings us ps xs cells ≡ Some ts → meaning us ps ts cell ≡ Some t → meanings us ps xs (cells ++ cell ∷ []) ≡ Some (ts ++ t ∷ [])
+meanings-push us ps xs [] ts cell t e m =
+    let same = ap (λ o. unwrap_or o ts) e in
+    ap (option_and_then (λ y. Some (xs ++ y ∷ []))) (ap (λ (zs : List Term). meaning us ps zs cell) same ∙ m) ∙ ap (λ (zs : List Term). Some (zs ++ t ∷ [])) same
+meanings-push us ps xs (other ∷ cells) ts cell t e m =
+    let f = chained (λ y. meanings us ps (xs ++ y ∷ []) cells) (meaning us ps xs other) ts e in
+    ap (option_and_then (λ y. meanings us ps (xs ++ y ∷ []) (cells ++ cell ∷ []))) f.1 ∙ meanings-push us ps (xs ++ f.0 ∷ []) cells ts cell t f.2 m
+
+-- texts and parts behind the others
+pub meanings-more : (us vs : List (List ℕ)) (ps qs : List TermId) (xs : List Term) (cells : List Cell) (ts : List Term)
+    → meanings us ps xs cells ≡ Some ts → meanings (us ++ vs) (ps ++ qs) xs cells ≡ Some ts
+meanings-more us vs ps qs xs [] ts e = e
+meanings-more us vs ps qs xs (cell ∷ cells) ts e =
+    let f = chained (λ y. meanings us ps (xs ++ y ∷ []) cells) (meaning us ps xs cell) ts e in
+    ap (option_and_then (λ y. meanings (us ++ vs) (ps ++ qs) (xs ++ y ∷ []) cells)) (subst (λ (zs : List Term). meaning (us ++ vs) (ps ++ qs) zs cell ≡ Some f.0) (append-nil xs) (meaning-more us vs ps qs xs [] cell f.0 f.1))
+    ∙ meanings-more us vs ps qs (xs ++ f.0 ∷ []) cells ts f.2
+
+-- the first terms stay
+pub meanings-from : (us : List (List ℕ)) (ps : List TermId) (xs : List Term) (cells : List Cell) (ts : List Term)
+    → meanings us ps xs cells ≡ Some ts → (ys : List Term) × (ts ≡ xs ++ ys) × (length ys ≡ length cells)
+meanings-from us ps xs [] ts e = ([], ap (λ o. unwrap_or o ts) (sym e) ∙ sym (append-nil xs), refl)
+meanings-from us ps xs (cell ∷ cells) ts e =
+    let f = chained (λ y. meanings us ps (xs ++ y ∷ []) cells) (meaning us ps xs cell) ts e in
+    let r = meanings-from us ps (xs ++ f.0 ∷ []) cells ts f.2 in
+    (f.0 ∷ r.0, r.1 ∙ append_assoc xs (f.0 ∷ []) r.0, ap suc r.2)
+
+pub nth-behind : {X : Type 0} (xs : List X) (x : X) (ys : List X) → slice_get (xs ++ x ∷ ys) (length xs) ≡ Some x
+nth-behind [] x ys = refl
+nth-behind (a ∷ xs) x ys = nth-behind xs x ys
+
+-- the term at a cell's place is the cell's
+pub meanings-at : (us : List (List ℕ)) (ps : List TermId) (xs : List Term) (cells : List Cell) (ts : List Term) (place : ℕ) (cell : Cell)
+    → meanings us ps xs cells ≡ Some ts → slice_get cells place ≡ Some cell → (t : Term) × (meaning us ps ts cell ≡ Some t) × (slice_get ts (length xs + place) ≡ Some t)
+meanings-at us ps xs [] ts place cell e g = absurd (none-some cell g)
+meanings-at us ps xs (first ∷ cells) ts zero cell e g =
+    let f = chained (λ y. meanings us ps (xs ++ y ∷ []) cells) (meaning us ps xs first) ts e in
+    let r = meanings-from us ps (xs ++ f.0 ∷ []) cells ts f.2 in
+    let is = ap (λ o. unwrap_or o cell) g in
+    let whole : ts ≡ xs ++ f.0 ∷ r.0 = r.1 ∙ append_assoc xs (f.0 ∷ []) r.0 in
+    let kept = meaning-more us [] ps [] xs (f.0 ∷ r.0) first f.0 f.1 in (
+      f.0,
+      subst (λ (zs : List Term). meaning us ps zs cell ≡ Some f.0) (sym whole)
+          (subst (λ (d : Cell). meaning us ps (xs ++ f.0 ∷ r.0) d ≡ Some f.0) is
+          (subst (λ (vs : List (List ℕ)). meaning vs ps (xs ++ f.0 ∷ r.0) first ≡ Some f.0) (append-nil us)
+          (subst (λ (qs : List TermId). meaning (us ++ []) qs (xs ++ f.0 ∷ r.0) first ≡ Some f.0) (append-nil ps) kept))),
+      ap₂ slice_get whole (add-zero (length xs)) ∙ nth-behind xs f.0 r.0,
+    )
+meanings-at us ps xs (first ∷ cells) ts (suc place) cell e g =
+    let f = chained (λ y. meanings us ps (xs ++ y ∷ []) cells) (meaning us ps xs first) ts e in
+    let r = meanings-at us ps (xs ++ f.0 ∷ []) cells ts place cell f.2 g in
+    let n : length (xs ++ f.0 ∷ []) + place ≡ length xs + suc place = omega (arith, length-append xs (f.0 ∷ [])) in
+    (r.0, r.1, ap (slice_get ts) (sym n) ∙ r.2)

@@ -1,0 +1,129 @@
+-- Steps of a comparison.
+use Rattle.std.proofs.Common.{◌≡◌, ℕ, ◌+◌, ◌-◌, ◌<◌, nat_le, List, [], ◌∷◌, ◌++◌, length, map, take, drop, slice_get, Some, option_and_then, unwrap_or, refl, sym, ap, ap₂, subst, ◌∙◌, zero, suc, arith}
+use Rattle.std.specs.Prelude.{Result, IfOk}
+use Rattle.std.specs.List.{All}
+use Rattle.std.specs.Ordering.{ordering_then}
+use Rattle.std.specs.declared.cmp.Ordering.{Ordering}
+use Rattle.std.specs.declared.cmp.Ordering.TheVariants.{Less, Equal, Greater}
+use Rattle.std.proofs.lemmas.Option.{cond_some, none-some}
+use Rattle.std.proofs.lemmas.List.{map-append}
+use Rattle.std.proofs.lemmas.List.Elements.{All-nil, All-cons, All-append, All-take}
+use Rattle.std.proofs.Math.Seq.{take-append_seam}
+use Rattle.std.proofs.lemmas.Grind.{common_steps}
+use Rattle.ej_term.specs.Term.{Term, Nil, terms}
+use Rattle.ej_term.specs.Order.{compare, compare_each}
+use Rattle.ej_term.proofs.Options.{unsome, chained, first-every}
+use Rattle.ej_term.proofs.OrderCode.{then-assoc}
+use Rattle.std.specs.declared.alloc.AllocError.{AllocError}
+use Rattle.std.specs.Prelude.{Ok, Err}
+use Rattle.term_heap.specs.Cells.{run, terms_of, parts_of, meaning}
+use Rattle.term_heap.specs.Works.{opened, term_at, run_at, work_order, order_onto, pending_order, IsWork, weight, weight_each, work_weight, weigh, Stepped}
+use Rattle.term_heap.specs.declared.cell.TermId.{TermId}
+use Rattle.term_heap.specs.declared.cell.Cell.{Cell}
+use Rattle.term_heap.specs.declared.work.Work.{Work}
+use Rattle.term_heap.specs.declared.work.Work.TheVariants as w
+use Rattle.term_heap.proofs.Adding.{known, is-known}
+use Rattle.term_heap.proofs.Opening.{OpensTo, opened-right}
+
+pub order-append : (l : Ordering) (xs ys : List Ordering) → order_onto l (xs ++ ys) ≡ order_onto (order_onto l xs) ys
+order-append l [] ys = refl
+order-append l (x ∷ xs) ys = order-append (ordering_then x l) xs ys
+
+pub weigh-append : (ps : List TermId) (ts : List Term) (xs ys : List Work) → weigh ps ts (xs ++ ys) ≡ weigh ps ts xs + weigh ps ts ys
+weigh-append ps ts [] ys = omega arith
+weigh-append ps ts (x ∷ xs) ys = ap (λ n. work_weight ps ts x + n) (weigh-append ps ts xs ys) ∙ omega arith
+
+pub pending-append : (ps : List TermId) (ts : List Term) (xs ys : List Work) → pending_order ps ts (xs ++ ys) ≡ order_onto (pending_order ps ts xs) (map (work_order ps ts) ys)
+pending-append ps ts xs ys = ap (order_onto Equal) (map-append (work_order ps ts) xs ys) ∙ order-append Equal (map (work_order ps ts) xs) (map (work_order ps ts) ys)
+
+pub stepped : (ps : List TermId) (ts : List Term) (r : Ordering × List Work) (work : Work) (o : Ordering) (old new : List Work)
+    → OpensTo ps ts r (work_order ps ts work) (work_weight ps ts work) → o ≡ r.0 → new ≡ old ++ r.1 → Stepped ps ts work o old new
+stepped ps ts r work o old new opens is more = record {
+  same = opens.order (pending_order ps ts old) ∙ ap₂ ordering_then (sym is) (sym (pending-append ps ts old r.1) ∙ ap (pending_order ps ts) (sym more));
+  fewer = (let all : weigh ps ts new ≡ weigh ps ts old + weigh ps ts r.1 = ap (weigh ps ts) more ∙ weigh-append ps ts old r.1 in let less = opens.fewer in omega (arith, all, less));
+  works = λ h. subst (λ (ws : List Work). All (IsWork ps ts) ws) (sym more) (All-append (IsWork ps ts) old r.1 h opens.works);
+}
+
+-- two ids, by their cells
+pub stepped-terms : (us : List (List ℕ)) (ps : List TermId) (ts : List Term) (x y : TermId) (a b : Cell) (r : Result Ordering AllocError) (old new : List Work)
+    → meaning us ps ts a ≡ Some (term_at ts x) → meaning us ps ts b ≡ Some (term_at ts y)
+    → IfOk r (λ o. o ≡ (opened us a b).0) → IfOk r (λ _. new ≡ old ++ (opened us a b).1) → IfOk r (λ o. Stepped ps ts (w.Terms x y) o old new)
+stepped-terms us ps ts x y a b (Ok o) old new ea eb is more = stepped ps ts (opened us a b) (w.Terms x y) o old new (opened-right us ps ts a b (term_at ts x) (term_at ts y) ea eb) is more
+stepped-terms us ps ts x y a b (Err e) old new ea eb is more = tt
+
+-- the first of a run, and the others
+pub run-split : {X : Type 0} (xs : List X) (first count : ℕ) (r : List X) (x : X) → 0 < count → run xs first count ≡ Some r → slice_get xs first ≡ Some x
+    → (rest : List X) × (r ≡ x ∷ rest) × (run xs (first + 1) (count - 1) ≡ Some rest)
+run-split xs first count r x positive e g =
+    let c = cond_some (nat_le (first + count) (length xs)) (take count (drop first xs)) r e in
+    let next : suc first ≡ first + 1 = omega arith in
+    let here : drop first xs ≡ x ∷ drop (first + 1) xs = drop-at xs first x g ∙ ap (λ k. x ∷ drop k xs) next in
+    let n : count ≡ suc (count - 1) = omega (arith, positive) in (
+      take (count - 1) (drop (first + 1) xs),
+      sym c.1 ∙ ap₂ take n here,
+      grind (arith, common_steps, c.0, positive),
+    )
+  where
+    drop-at : {X : Type 0} (xs : List X) (i : ℕ) (x : X) → slice_get xs i ≡ Some x → drop i xs ≡ x ∷ drop (suc i) xs
+    drop-at [] i x g = absurd (none-some x g)
+    drop-at (y ∷ xs) zero x g = ap (λ z. z ∷ xs) (unsome y x g)
+    drop-at (y ∷ xs) (suc i) x g = drop-at xs i x g
+
+pub parts-split : (ps : List TermId) (ts : List Term) (first count : ℕ) (xs : List Term) (id : TermId) → 0 < count → parts_of ps ts first count ≡ Some xs → slice_get ps first ≡ Some id
+    → (x : Term) × (rest : List Term) × (xs ≡ x ∷ rest) × (slice_get ts id.0 ≡ Some x) × (parts_of ps ts (first + 1) (count - 1) ≡ Some rest)
+parts-split ps ts first count xs id positive e g =
+    let f = chained (terms_of ts) (run ps first count) xs e in
+    let s = run-split ps first count f.0 id positive f.1 g in
+    let q = first-every (slice_get ts id.0) (map (λ (i : TermId). slice_get ts i.0) s.0) xs (ap (terms_of ts) (sym s.1) ∙ f.2) in
+    (q.0, q.1, sym q.4, q.2, ap (option_and_then (terms_of ts)) s.2 ∙ q.3)
+
+pub runs-open : (ps : List TermId) (ts : List Term) (x y count : ℕ) (p q : TermId) → IsWork ps ts (w.Runs x y count) → 0 < count → slice_get ps x ≡ Some p → slice_get ps y ≡ Some q
+    → OpensTo ps ts (Equal, w.Runs (x + 1) (y + 1) (count - 1) ∷ w.Terms p q ∷ []) (work_order ps ts (w.Runs x y count)) (work_weight ps ts (w.Runs x y count))
+runs-open ps ts x y count p q is positive gp gq =
+    let a = parts-split ps ts x count (run_at ps ts x count) p positive (known (parts_of ps ts x count) [] is.0) gp in
+    let b = parts-split ps ts y count (run_at ps ts y count) q positive (known (parts_of ps ts y count) [] is.1) gq in
+    let ra : run_at ps ts (x + 1) (count - 1) ≡ a.1 = ap (λ z. unwrap_or z []) a.4 in
+    let rb : run_at ps ts (y + 1) (count - 1) ≡ b.1 = ap (λ z. unwrap_or z []) b.4 in
+    let ta : term_at ts p ≡ a.0 = ap (λ z. unwrap_or z Nil) a.3 in
+    let tb : term_at ts q ≡ b.0 = ap (λ z. unwrap_or z Nil) b.3 in
+    record {
+      order = λ l. ap₂ (λ (u v : List Term). ordering_then (compare_each (terms u) (terms v)) l) a.2 b.2
+          ∙ then-assoc (compare a.0 b.0) (compare_each (terms a.1) (terms b.1)) l
+          ∙ ap₂ (λ (u v : Term). ordering_then (compare u v) (ordering_then (compare_each (terms a.1) (terms b.1)) l)) (sym ta) (sym tb)
+          ∙ ap₂ (λ (u v : List Term). ordering_then (compare (term_at ts p) (term_at ts q)) (ordering_then (compare_each (terms u) (terms v)) l)) (sym ra) (sym rb);
+      fewer = (let wa : weight_each (terms (run_at ps ts x count)) ≡ 1 + weight a.0 + weight_each (terms a.1) = ap (λ (u : List Term). weight_each (terms u)) a.2 in
+          let wr : weight_each (terms (run_at ps ts (x + 1) (count - 1))) ≡ weight_each (terms a.1) = ap (λ (u : List Term). weight_each (terms u)) ra in
+          let wt : weight (term_at ts p) ≡ weight a.0 = ap weight ta in
+          omega (arith, wa, wr, wt));
+      works = All-cons (IsWork ps ts) (w.Runs (x + 1) (y + 1) (count - 1)) (w.Terms p q ∷ []) (is-known (parts_of ps ts (x + 1) (count - 1)) a.1 a.4, is-known (parts_of ps ts (y + 1) (count - 1)) b.1 b.4)
+          (All-cons (IsWork ps ts) (w.Terms p q) [] (is-known (slice_get ts p.0) a.0 a.3, is-known (slice_get ts q.0) b.0 b.3) (All-nil (IsWork ps ts)));
+    }
+
+-- a step that tells
+pub step-ends : (ps : List TermId) (ts : List Term) (work : Work) (o d : Ordering) (old popped new : List Work)
+    → Stepped ps ts work o popped new → pending_order ps ts old ≡ d → old ≡ popped ++ work ∷ [] → (o ≡ Equal → ⊥) → o ≡ d
+step-ends ps ts work o d old popped new s e is differs = decided o differs (pending_order ps ts new) ∙ sym s.same ∙ sym (pending-append ps ts popped (work ∷ [])) ∙ ap (pending_order ps ts) (sym is) ∙ e
+  where
+    decided : (o : Ordering) → (o ≡ Equal → ⊥) → (l : Ordering) → o ≡ ordering_then o l
+    decided Less h l = refl
+    decided Equal h l = absurd (h refl)
+    decided Greater h l = refl
+
+-- a step that leaves a tie
+pub step-goes : (ps : List TermId) (ts : List Term) (work : Work) (o d : Ordering) (old popped new : List Work)
+    → Stepped ps ts work o popped new → pending_order ps ts old ≡ d → old ≡ popped ++ work ∷ [] → o ≡ Equal → pending_order ps ts new ≡ d
+step-goes ps ts work o d old popped new s e is tie = sym (s.same ∙ ap (λ q. ordering_then q (pending_order ps ts new)) tie) ∙ sym (pending-append ps ts popped (work ∷ [])) ∙ ap (pending_order ps ts) (sym is) ∙ e
+
+all-front : (P : Work → Type 0) (xs ys : List Work) → All P (xs ++ ys) → All P xs
+all-front P xs ys all = subst (λ (ws : List Work). All P ws) (take-append_seam xs ys) (All-take P (length xs) (xs ++ ys) all)
+
+pub step-works : (ps : List TermId) (ts : List Term) (work : Work) (o : Ordering) (old popped new : List Work)
+    → Stepped ps ts work o popped new → All (IsWork ps ts) old → old ≡ popped ++ work ∷ [] → All (IsWork ps ts) new
+step-works ps ts work o old popped new s all is = s.works (all-front (IsWork ps ts) popped (work ∷ []) (subst (λ (ws : List Work). All (IsWork ps ts) ws) is all))
+
+pub step-fewer : (ps : List TermId) (ts : List Term) (work : Work) (o : Ordering) (old popped new : List Work)
+    → Stepped ps ts work o popped new → old ≡ popped ++ work ∷ [] → weigh ps ts new < weigh ps ts old
+step-fewer ps ts work o old popped new s is =
+    let all : weigh ps ts old ≡ weigh ps ts popped + (work_weight ps ts work + 0) = ap (weigh ps ts) is ∙ weigh-append ps ts popped (work ∷ []) in
+    let less = s.fewer in
+    omega (arith, all, less)

@@ -1,0 +1,21 @@
+use Rattle.std.proofs.Common.{rules, is_ok}
+use Rattle.term_heap.proofs.Adding.{pushed, pushed-seen, pushed-term, extends-itself}
+use Rattle.term_heap.proofs.heap.Heap.push.Goals as goal
+
+pub invariant_of-self : goal.invariant_of-self
+invariant_of-self c = record {
+  meant = pushed (is_ok c.push.result) c.args.self.now.atoms.keys c.args.self.now.parts.items c.args.self.now.cells.items c.push.new.self.items c.args.cell
+      c.args.self.now.meant c.requires c.push.ensures.items;
+}
+
+pub returns-clause-keeps : goal.returns-clause-keeps
+returns-clause-keeps c = record {
+  terms = pushed-seen (is_ok c.push.result) c.args.self.now.atoms.keys c.args.self.now.parts.items c.args.self.now.cells.items c.push.new.self.items c.args.cell
+      c.args.self.now.meant c.requires c.push.ensures.items;
+  parts = extends-itself c.args.self.now.parts.items;
+  texts = extends-itself c.args.self.now.atoms.keys;
+}
+
+pub returns-clause-term : goal.returns-clause-term
+returns-clause-term c = pushed-term c.args.self.now.atoms.keys c.args.self.now.parts.items c.args.self.now.cells.items c.push.new.self.items c.args.cell c.at.result.0
+    c.args.self.now.meant c.requires c.in_ok-push.ensures.items (search rules)

@@ -1,0 +1,20 @@
+use Rattle.std.proofs.Common.{is_ok}
+use Rattle.term_heap.proofs.Adding.{grown, grown-seen, extends-itself, extends-if, extends-same}
+use Rattle.term_heap.proofs.heap.Heap.push_parts.Goals as goal
+
+pub invariant_of-self : goal.invariant_of-self
+invariant_of-self c = record {
+  meant = grown c.args.self.now.atoms.keys c.args.self.now.atoms.keys c.args.self.now.parts.items c.extend_from_slice.new.self.items c.args.self.now.cells.items
+      (extends-itself c.args.self.now.atoms.keys) (extends-if (is_ok c.extend_from_slice.result) c.args.self.now.parts.items c.args.ids.now c.extend_from_slice.new.self.items c.extend_from_slice.ensures.items) c.args.self.now.meant;
+}
+
+pub returns-clause-terms : goal.returns-clause-terms
+returns-clause-terms c = grown-seen c.args.self.now.atoms.keys c.args.self.now.atoms.keys c.args.self.now.parts.items c.extend_from_slice.new.self.items c.args.self.now.cells.items
+    (extends-itself c.args.self.now.atoms.keys) (extends-if (is_ok c.extend_from_slice.result) c.args.self.now.parts.items c.args.ids.now c.extend_from_slice.new.self.items c.extend_from_slice.ensures.items) c.args.self.now.meant
+
+pub returns-clause-keeps : goal.returns-clause-keeps
+returns-clause-keeps c = record {
+  terms = extends-same _ _ (returns-clause-terms c);
+  parts = extends-if (is_ok c.extend_from_slice.result) c.args.self.now.parts.items c.args.ids.now c.extend_from_slice.new.self.items c.extend_from_slice.ensures.items;
+  texts = extends-itself c.args.self.now.atoms.keys;
+}

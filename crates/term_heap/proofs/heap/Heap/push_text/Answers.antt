@@ -1,0 +1,19 @@
+use Rattle.term_heap.proofs.Adding.{grown, grown-seen, extends-itself, extends-same}
+use Rattle.term_heap.proofs.heap.Heap.push_text.Goals as goal
+
+pub invariant_of-self : goal.invariant_of-self
+invariant_of-self c = record {
+  meant = grown c.args.self.now.atoms.keys c.place_of.new.texts.keys c.args.self.now.parts.items c.args.self.now.parts.items c.args.self.now.cells.items
+      c.place_of.ensures.keeps (extends-itself c.args.self.now.parts.items) c.args.self.now.meant;
+}
+
+pub returns-clause-terms : goal.returns-clause-terms
+returns-clause-terms c = grown-seen c.args.self.now.atoms.keys c.place_of.new.texts.keys c.args.self.now.parts.items c.args.self.now.parts.items c.args.self.now.cells.items
+    c.place_of.ensures.keeps (extends-itself c.args.self.now.parts.items) c.args.self.now.meant
+
+pub returns-clause-keeps : goal.returns-clause-keeps
+returns-clause-keeps c = record {
+  terms = extends-same _ _ (returns-clause-terms c);
+  parts = extends-itself c.args.self.now.parts.items;
+  texts = c.place_of.ensures.keeps;
+}

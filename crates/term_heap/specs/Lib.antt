@@ -1,0 +1,5 @@
+pub mod Cells
+pub mod View
+pub mod Held
+pub mod Works
+pub mod Entries

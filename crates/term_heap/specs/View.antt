@@ -1,0 +1,41 @@
+-- A heap as the terms that its ids stand for.
+use Rattle.std.specs.Prelude.{◌≡◌, ℕ, List, [], slice_get, Option, Some, unwrap_or, IsSome}
+use Rattle.ej_term.specs.Term.{Term, Nil}
+use Rattle.term_heap.specs.Cells.{meaning, meanings, Extends}
+use Rattle.term_heap.specs.declared.cell.TermId.{TermId}
+use Rattle.term_heap.specs.declared.cell.Cell.{Cell}
+use Rattle.term_heap.specs.declared.heap.Heap.{Heap}
+
+-- the terms by their ids
+abbrev pub terms_in : Heap → List Term
+terms_in heap = unwrap_or (meanings heap.atoms.keys heap.parts.items [] heap.cells.items) []
+
+-- the parts by their places
+abbrev pub parts_in : Heap → List TermId
+parts_in heap = heap.parts.items
+
+-- the texts of atoms by their places
+abbrev pub texts_in : Heap → List (List ℕ)
+texts_in heap = heap.atoms.keys
+
+-- the id stands for this term
+abbrev pub Stands : Heap → TermId → Term → Type 0
+Stands heap id term = slice_get (terms_in heap) id.0 ≡ Some term
+
+-- the id is one of the heap
+abbrev pub Holds : Heap → TermId → Type 0
+Holds heap id = IsSome (slice_get (terms_in heap) id.0)
+
+-- the term that an id of the heap stands for
+abbrev pub term_of : Heap → TermId → Term
+term_of heap id = unwrap_or (slice_get (terms_in heap) id.0) Nil
+
+-- the term of a cell, by the ids and places that it names
+abbrev pub cell_term : Heap → Cell → Option Term
+cell_term heap cell = meaning (texts_in heap) (parts_in heap) (terms_in heap) cell
+
+-- each earlier id keeps its term, and each place its part or text
+pub record Keeps (old new : Heap) : Type 0 where
+  pub terms : Extends (terms_in old) (terms_in new)
+  pub parts : Extends (parts_in old) (parts_in new)
+  pub texts : Extends (texts_in old) (texts_in new)

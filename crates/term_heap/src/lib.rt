@@ -1,0 +1,18 @@
+//! A heap of Erlang terms (Erlang Reference Manual, "Data Types"): each term has an id, which stands for that
+//! term for good.
+//!
+//! A heap is seen through `term_of`, the term that an id stands for. What is added keeps the term of each
+//! earlier id, and nothing is given back before the heap itself.
+#![tactic(auto)]
+
+mod cell;
+mod heap;
+mod makers;
+mod order;
+mod sort;
+mod texts;
+mod work;
+
+pub use cell::{Cell, TermId};
+pub use heap::Heap;
+pub use order::compare;
