@@ -1,1 +1,4 @@
+mod FitsLemmas
+pub mod ForeignLemmas
 pub mod SameCode
+pub mod LabelsLaw

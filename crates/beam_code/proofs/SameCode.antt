@@ -1,6 +1,7 @@
 -- What an instruction stands for tells the instruction, and so on up to modules.
 use Rattle.std.proofs.Common.{◌≡◌, ℕ, Bool, true, false, nat_eq, List, [], ◌∷◌, map, refl, sym, ap, ◌∙◌, subst, arith}
-use Rattle.std.specs.Prelude.{if◌then◌else◌}
+use Rattle.std.specs.Prelude.{if◌then◌else◌, ◌&&◌}
+use Rattle.std.specs.List.{list_all}
 use Rattle.std.proofs.Math.Bool.{Bool-set}
 use Rattle.std.proofs.lemmas.Bool.Decides.{nat_tests}
 use Rattle.beam_code.specs.declared.instr.Instr.{Instr}
@@ -11,12 +12,13 @@ use Rattle.beam_code.specs.declared.operand.Operand.TheVariants as operand
 use Rattle.beam_code.specs.declared.operand.Reg.TheVariants as register
 use Rattle.beam_code.specs.declared.operand.Src.{Src}
 use Rattle.beam_code.specs.declared.operand.Src.TheVariants as source
+use Rattle.beam_code.specs.Fits.{fits}
 use Rattle.beam_code.specs.Forms.{opcode}
 use Rattle.beam_code.specs.Keys.{Key, are_distinct, are_exports}
 use Rattle.beam_code.specs.Opcode.{Integer, Atom, Nil, Source, X, Of, Opcode, Label, Line, FuncInfo, Move, Return, Unknown, label_of, func_info_of, source_of, move_to, move_of, without_operands, opcode_of, is_known}
 
 -- the row and the operands of an instruction that is known
-abbrev row_of : Opcode → ℕ
+abbrev pub row_of : Opcode → ℕ
 row_of (Label n) = 1
 row_of Line = 2
 row_of (FuncInfo owner name arity) = 4
@@ -24,21 +26,25 @@ row_of (Move from to) = 5
 row_of Return = 22
 row_of Unknown = 0
 
-abbrev src_of : Source → Src
+abbrev pub src_of : Source → Src
 src_of (X n) = source.Reg (register.X n)
 src_of (Of (Integer number)) = source.Int number
 src_of (Of (Atom name)) = source.Atom name
 src_of (Of Nil) = source.Nil
 
-abbrev operands_of : Opcode → List Operand
+abbrev pub operands_of : Opcode → List Operand
 operands_of (Label n) = operand.Count n ∷ []
 operands_of (FuncInfo owner name arity) = operand.Src (source.Atom owner) ∷ operand.Src (source.Atom name) ∷ operand.Count arity ∷ []
 operands_of (Move from to) = operand.Src (src_of from) ∷ operand.Reg (register.X to) ∷ []
 operands_of _ = []
 
-record IsCanonical (row : ℕ) (operands : List Operand) (o : Opcode) : Type 0 where
-  row_is : row ≡ row_of o
-  operands_are : operands ≡ operands_of o
+pub record IsCanonical (row : ℕ) (operands : List Operand) (o : Opcode) : Type 0 where
+  pub row_is : row ≡ row_of o
+  pub operands_are : operands ≡ operands_of o
+
+both-true : (a b : Bool) → a && b ≡ true → (a ≡ true) × (b ≡ true)
+both-true true b e = (refl, e)
+both-true false b e = absurd (cc)
 
 same-number : (m n : ℕ) → nat_eq m n ≡ true → m ≡ n
 same-number m n h = grind (arith, nat_tests)
@@ -89,33 +95,34 @@ canonical-by row operands false false false true e ea eb ec ed ee known = move-c
 canonical-by row operands false false false false true ea eb ec ed ee known = return-canonical row operands (same-number row 22 ee) known
 canonical-by row operands false false false false false ea eb ec ed ee known = absurd (cc)
 
-canonical : (i : Instr) → IsCanonical i.row i.operands (opcode i)
-canonical i = canonical-by i.row i.operands (nat_eq i.row 1) (nat_eq i.row 2) (nat_eq i.row 4) (nat_eq i.row 5) (nat_eq i.row 22) refl refl refl refl refl i.fits_row
+pub canonical : (i : Instr) → is_known (opcode i) ≡ true → IsCanonical i.row i.operands (opcode i)
+canonical i known = canonical-by i.row i.operands (nat_eq i.row 1) (nat_eq i.row 2) (nat_eq i.row 4) (nat_eq i.row 5) (nat_eq i.row 22) refl refl refl refl refl known
 
 -- an instruction's proof that it fits its row is the only one
-same-fields : (row row' : ℕ) (os os' : List Operand) → row ≡ row' → os ≡ os' → (d : is_known (opcode_of row os) ≡ true) (d' : is_known (opcode_of row' os') ≡ true)
+same-fields : (row row' : ℕ) (os os' : List Operand) → row ≡ row' → os ≡ os' → (d : fits row os ≡ true) (d' : fits row' os' ≡ true)
     → ◌≡◌ {A = Instr} (record { row = row; operands = os; fits_row = d }) (record { row = row'; operands = os'; fits_row = d' })
 same-fields row row' os os' e f d =
-    subst (λ r. (d' : is_known (opcode_of r os') ≡ true) → ◌≡◌ {A = Instr} (record { row = row; operands = os; fits_row = d }) (record { row = r; operands = os'; fits_row = d' })) e
-    (subst (λ o. (d' : is_known (opcode_of row o) ≡ true) → ◌≡◌ {A = Instr} (record { row = row; operands = os; fits_row = d }) (record { row = row; operands = o; fits_row = d' })) f
-    (λ d'. ap (λ (x : is_known (opcode_of row os) ≡ true). let i : Instr = record { row = row; operands = os; fits_row = x } in i) (Bool-set _ _ d d')))
+    subst (λ r. (d' : fits r os' ≡ true) → ◌≡◌ {A = Instr} (record { row = row; operands = os; fits_row = d }) (record { row = r; operands = os'; fits_row = d' })) e
+    (subst (λ o. (d' : fits row o ≡ true) → ◌≡◌ {A = Instr} (record { row = row; operands = os; fits_row = d }) (record { row = row; operands = o; fits_row = d' })) f
+    (λ d'. ap (λ (x : fits row os ≡ true). let i : Instr = record { row = row; operands = os; fits_row = x } in i) (Bool-set _ _ d d')))
 
-same-instr : (i j : Instr) → opcode i ≡ opcode j → i ≡ j
-same-instr i j e =
-    let a = canonical i in
-    let b = canonical j in
+same-instr : (i j : Instr) → is_known (opcode i) ≡ true → opcode i ≡ opcode j → i ≡ j
+same-instr i j known e =
+    let a = canonical i known in
+    let b = canonical j (subst (λ o. is_known o ≡ true) e known) in
     same-fields i.row j.row i.operands j.operands (a.row_is ∙ ap row_of e ∙ sym b.row_is) (a.operands_are ∙ ap operands_of e ∙ sym b.operands_are) i.fits_row j.fits_row
 
--- code is told by what its instructions stand for
-pub same-code : (xs ys : List Instr) → map opcode xs ≡ map opcode ys → xs ≡ ys
-same-code [] [] e = refl
-same-code [] (y ∷ ys) e = absurd (cc)
-same-code (x ∷ xs) [] e = absurd (cc)
-same-code (x ∷ xs) (y ∷ ys) e =
+-- code is told by what its instructions stand for, where each is one that is read so far
+pub same-code : (xs ys : List Instr) → list_all is_known (map opcode xs) ≡ true → map opcode xs ≡ map opcode ys → xs ≡ ys
+same-code [] [] known e = refl
+same-code [] (y ∷ ys) known e = absurd (cc)
+same-code (x ∷ xs) [] known e = absurd (cc)
+same-code (x ∷ xs) (y ∷ ys) known e =
     let first : opcode x ≡ opcode y = cc in
     let rest : map opcode xs ≡ map opcode ys = cc in
-    let here = same-instr x y first in
-    let others = same-code xs ys rest in
+    let both = both-true (is_known (opcode x)) (list_all is_known (map opcode xs)) known in
+    let here = same-instr x y both.0 first in
+    let others = same-code xs ys both.1 rest in
     λ i. here i ∷ others i
 
 -- modules are told by their names, exports and functions

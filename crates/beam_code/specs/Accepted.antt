@@ -1,12 +1,12 @@
 -- Which modules are compiled: those of plain names, numbers in range and the instructions that are read so far that
 -- meet every rule.
-use Rattle.std.specs.Prelude.{◌≡◌, ℕ, ℤ, pos, negsuc, Bool, true, nat_lt, nat_le, ◌&&◌, List, length}
+use Rattle.std.specs.Prelude.{◌≡◌, ℕ, ℤ, pos, negsuc, Bool, true, false, nat_lt, nat_le, ◌&&◌, List, length}
 use Rattle.std.specs.List.{list_all, AllByRecursion}
 use Rattle.ej_term.specs.Atoms.{is_plain}
 use Rattle.beam_code.specs.declared.module.Function.{Function}
 use Rattle.beam_code.specs.declared.module.Module.{Module}
 use Rattle.beam_code.specs.LabelRules.{opcodes, meets_label_rules}
-use Rattle.beam_code.specs.Opcode.{Source, X, Of, Integer, Atom, Opcode, Label, FuncInfo, Move}
+use Rattle.beam_code.specs.Opcode.{Source, X, Of, Integer, Atom, Opcode, Label, Line, FuncInfo, Move, Return, Unknown}
 use Rattle.beam_code.specs.Slots.{WellSlotted}
 use Rattle.beam_code.specs.Weights.{fits}
 
@@ -33,12 +33,14 @@ is_thin_source (Of (Integer number)) = is_integer number
 is_thin_source (Of (Atom name)) = is_thin_name name
 is_thin_source (Of _) = true
 
--- an instruction whose names are such atoms, and whose numbers are in range
+-- an instruction that is read so far, whose names are such atoms, and whose numbers are in range
 abbrev pub is_thin_opcode : Opcode → Bool
 is_thin_opcode (Label n) = is_count n
 is_thin_opcode (FuncInfo owner name arity) = is_thin_name owner && is_thin_name name && is_count arity
 is_thin_opcode (Move from to) = is_thin_source from && is_register to
-is_thin_opcode _ = true
+is_thin_opcode Line = true
+is_thin_opcode Return = true
+is_thin_opcode Unknown = false
 
 -- a function of such a name and instructions, with at most 255 arguments
 abbrev pub is_thin_function : Function → Bool

@@ -1,7 +1,11 @@
+pub mod Foreign
+pub mod Fits
 pub mod Opcode
 pub mod Keys
+pub mod Parts
 pub mod Forms
 pub mod LabelRules
+pub mod Labels
 pub mod Slots
 pub mod Weights
 pub mod Accepted

@@ -1,8 +1,9 @@
 //! One instruction.
 
 ghost use Rattle.std.specs.Prelude.{◌≡◌, true};
-ghost use Rattle.beam_code.specs.Opcode.{is_known, opcode_of};
+ghost use Rattle.beam_code.specs.Fits.{fits as fits_row_of};
 
+use crate::fits::fits;
 use crate::{Operand, Reg, Src, rows};
 use ej_term::Text;
 use sqlite_items::Items;
@@ -13,13 +14,26 @@ use std::alloc::{AllocError, Global};
 pub struct Instr {
     pub row: u16,
     pub operands: Items<Operand>,
-    pub ghost fits_row: { is_known (opcode_of row operands) ≡ true },
+    pub ghost fits_row: { fits_row_of row operands ≡ true },
 }
 
 impl Instr {
-    ghost use Rattle.std.specs.Prelude.{◌≡◌, IfOk, IsSome, Some};
+    ghost use Rattle.std.specs.Prelude.{◌≡◌, IfOk, IsSome, Some, List, Option, option_map, true};
     ghost use Rattle.beam_code.specs.Opcode.{Source, Label, Line, FuncInfo, Move, Return, source_of};
     ghost use Rattle.beam_code.specs.Forms.{opcode};
+    ghost use Rattle.beam_code.specs.Parts.{parts_of, fitting};
+    ghost use Rattle.beam_code.specs.Fits.{is_source, is_register};
+    ghost use Rattle.beam_code.specs.declared.operand.Reg.TheVariants.{X};
+
+    /// The instruction of that row and these operands. None where they do not fit the row.
+    pub fn make(row: u16, operands: Items<Operand>) -> Option<Instr>
+        ensures { option_map parts_of result ≡ fitting row operands }
+    {
+        if !fits(row, operands.as_slice()) {
+            return None;
+        }
+        Some(Instr { row, operands })
+    }
 
     /// `{label,n}`: defines the label `n`. The error says that memory was wanting.
     pub fn label(alloc: Global, n: u32) -> Result<Instr, AllocError>
@@ -64,9 +78,11 @@ impl Instr {
     }
 
     /// `{move,S,{x,N}}`: the register gets what the source holds, an x register, an integer, an atom or nil. The
-    /// error says that memory was wanting.
+    /// registers' numbers are at most 1,023. The error says that memory was wanting.
     pub fn moves(alloc: Global, from: Src, to: u16) -> Result<Instr, AllocError>
-        requires { IsSome (source_of from) }
+        requires known { IsSome (source_of from) }
+        requires from_fits { is_source from ≡ true }
+        requires to_fits { is_register (X to) ≡ true }
         ensures { (source : Source) → source_of from ≡ Some source → IfOk result (λ i. opcode i ≡ Move source to) }
     {
         let mut operands = Items::new(alloc);

@@ -6,11 +6,14 @@
 //! place, and what it weighs.
 #![tactic(auto)]
 
+mod fits;
+mod foreign;
 mod instr;
 mod module;
 mod operand;
 pub mod rows;
 
+pub use foreign::holds_foreign;
 pub use instr::Instr;
 pub use module::{Function, Module};
 pub use operand::{Operand, Reg, Src};

@@ -1,12 +1,12 @@
 -- A module is accepted where each check passes.
-use Rattle.std.proofs.Common.{◌≡◌, ◌↔◌, IsTrue, Bool, true, false, nat_lt, length, ◌&&◌, List, [], ◌∷◌, Result, Ok, Err, IfOk, refl, sym, ◌∙◌}
+use Rattle.std.proofs.Common.{◌≡◌, ◌↔◌, IsTrue, Bool, true, false, List, [], ◌∷◌, Result, Ok, Err, IfOk, refl, sym, ◌∙◌}
 use Rattle.std.specs.List.{list_all, filter_map, AllByRecursion}
 use Rattle.std.proofs.lemmas.Bool.{and_parts, true≢false}
 use Rattle.beam_code.specs.declared.module.Function.{Function}
 use Rattle.beam_code.specs.declared.module.Module.{Module}
 use Rattle.beam_code.specs.LabelRules.{opcodes, defined_label, no_label_twice, begins_well, labels_of, meets_label_rules}
 use Rattle.beam_code.specs.Slots.{WellSlotted}
-use Rattle.beam_code.specs.Accepted.{is_thin_function, is_thin_name, is_thin_module, Accepted}
+use Rattle.beam_code.specs.Accepted.{is_thin_module, Accepted}
 use Rattle.beam_code.specs.Weights.{fits}
 use Rattle.erjang_top.specs.LabelChecks.{labels_in}
 use Rattle.erjang_top.specs.SlotCheck.{passes, labels_differ}
@@ -39,10 +39,6 @@ refused m b passes fails = (λ e. absurd (true≢false (sym e)), λ a. sym fails
 
 pub slots-pass : (m : Module) → Accepted m → list_all passes m.functions ≡ true
 slots-pass m a = all-pass m.functions a.slots
-
--- the functions of a module that is plain are in range
-pub functions-plain : (m : Module) → is_thin_module m ≡ true → list_all is_thin_function m.functions ≡ true
-functions-plain m e = (and_parts (is_thin_name m.name && nat_lt 0 (length m.functions)) (list_all is_thin_function m.functions) e).1
 
 -- all but the weights are as they should be
 pub decided : (m : Module) (b : Bool) → is_thin_module m ≡ true → meets_label_rules m ≡ true → list_all passes m.functions ≡ true → b ≡ fits m → IsTrue b ↔ Accepted m

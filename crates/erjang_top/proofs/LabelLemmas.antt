@@ -69,6 +69,11 @@ code-end code i end = ap (λ c. filter_map defined_label (map opcode c)) (drop_a
 pub functions-end : (fs : List Function) (i : ℕ) → length fs ≤ i → labels_in (drop i fs) ≡ []
 functions-end fs i end = ap labels_in (drop_all i fs end)
 
+-- new ones, by the answer of what adds them
+pub counted-fresh : (numbers more new left whole rest : List ℕ) (fresh : Bool) → fresh ≡ true → rest ≡ more ++ left → AddsLabels numbers more new fresh → Counted numbers rest whole → Counted new left whole
+counted-fresh numbers more new left whole rest fresh f r adds c =
+    counted-more numbers more new left whole (subst (AddsLabels numbers more new) f adds) (subst (λ r. Counted numbers r whole) r c)
+
 -- one that was there before, by the answer of what adds them
 pub counted-stale : (numbers more new left whole rest : List ℕ) (fresh : Bool) → fresh ≡ false → rest ≡ more ++ left → AddsLabels numbers more new fresh → Counted numbers rest whole → no_label_twice whole ≡ false
 counted-stale numbers more new left whole rest fresh f r adds c =

@@ -11,7 +11,7 @@ use Rattle.beam_code.specs.declared.module.Module.{Module}
 use Rattle.beam_code.specs.Forms.{opcode, instruction_form, function_forms, forms_of}
 use Rattle.beam_code.specs.Keys.{Key, same_key, key_of, is_among}
 use Rattle.beam_code.specs.LabelRules.{opcodes}
-use Rattle.beam_code.specs.Opcode.{Integer, Atom, Nil, Source, X, Of, Opcode, Label, Line, FuncInfo, Move, Return, Unknown, is_known}
+use Rattle.beam_code.specs.Opcode.{Integer, Atom, Nil, Source, X, Of, Opcode, Label, Line, FuncInfo, Move, Return, Unknown}
 use Rattle.beam_code.specs.Accepted.{is_thin_name, is_count, is_register, is_thin_source, is_thin_opcode, is_thin_function, is_thin_module}
 use Rattle.erjang_top.specs.declared.source.form.Form.{Form}
 use Rattle.erjang_top.specs.declared.source.form.Form.TheVariants as form
@@ -55,19 +55,19 @@ source-form (Of (Atom name)) e = refl
 source-form (Of Nil) e = refl
 
 -- an instruction's row is a form where its numbers are in range
-code-form : (o : Opcode) → is_known o ≡ true → is_thin_opcode o ≡ true → is_form (code_row o) ≡ true
-code-form (Label n) known e = e
-code-form Line known e = refl
-code-form (FuncInfo owner name arity) known e = and_right (is_thin_name owner && is_thin_name name) (is_count arity) e
-code-form (Move from to) known e =
+code-form : (o : Opcode) → is_thin_opcode o ≡ true → is_form (code_row o) ≡ true
+code-form (Label n) e = e
+code-form Line e = refl
+code-form (FuncInfo owner name arity) e = and_right (is_thin_name owner && is_thin_name name) (is_count arity) e
+code-form (Move from to) e =
     rw (source-form from (and_left (is_thin_source from) (is_register to) e), register-index to (and_right (is_thin_source from) (is_register to) e)) refl
-code-form Return known e = refl
-code-form Unknown known e = clash (sym known)
+code-form Return e = refl
+code-form Unknown e = e
 
 codes-forms : (code : List Instr) → list_all is_thin_opcode (map opcode code) ≡ true → list_all is_form (map (λ i. code_row (opcode i)) code) ≡ true
 codes-forms [] e = refl
 codes-forms (i ∷ code) e =
-    let here = code-form (opcode i) i.fits_row (and_left (is_thin_opcode (opcode i)) (list_all is_thin_opcode (map opcode code)) e) in
+    let here = code-form (opcode i) (and_left (is_thin_opcode (opcode i)) (list_all is_thin_opcode (map opcode code)) e) in
     let others = codes-forms code (and_right (is_thin_opcode (opcode i)) (list_all is_thin_opcode (map opcode code)) e) in
     rw (here, others) refl
 
@@ -114,10 +114,14 @@ keys-form (key ∷ keys) functions among e =
 abbrev pub module_rows : ℕ → Module → List Form
 module_rows labels m = rows_of labels m.name m.exports m.functions
 
+-- the functions of a plain module are plain
+pub functions-plain : (m : Module) → is_thin_module m ≡ true → list_all is_thin_function m.functions ≡ true
+functions-plain m e = and_right (is_thin_name m.name && nat_lt 0 (length m.functions)) (list_all is_thin_function m.functions) e
+
 -- a plain module's rows are forms
 pub rows-forms : (labels : ℕ) (m : Module) → is_count labels ≡ true → is_thin_module m ≡ true → list_all is_form (module_rows labels m) ≡ true
 rows-forms labels m count e =
-    let functions = and_right (is_thin_name m.name && nat_lt 0 (length m.functions)) (list_all is_thin_function m.functions) e in
+    let functions = functions-plain m e in
     let exports = keys-form m.exports m.functions m.exported functions in
     let rows = functions-forms m.functions functions in
     rw (exports, count, rows) refl

@@ -1,22 +1,23 @@
 -- Bytes are the source of one module at most.
-use Rattle.std.proofs.Common.{◌≡◌, ℕ, Bool, true, false, List, [], ◌∷◌, ◌++◌, map, refl, sym, ap, ◌∙◌}
-use Rattle.std.specs.List.{flat_map}
+use Rattle.std.proofs.Common.{◌≡◌, ℕ, Bool, true, false, nat_le, ◌&&◌, List, [], ◌∷◌, ◌++◌, map, refl, sym, ap, ◌∙◌}
+use Rattle.std.specs.List.{list_all, flat_map}
 use Rattle.beam_code.specs.declared.instr.Instr.{Instr}
 use Rattle.beam_code.specs.declared.module.Function.{Function}
 use Rattle.beam_code.specs.Forms.{opcode, forms_of}
 use Rattle.beam_code.specs.declared.module.Module.{Module}
-use Rattle.beam_code.specs.Accepted.{is_count, is_thin_module}
+use Rattle.beam_code.specs.Accepted.{is_thin_name, is_count, is_thin_opcode, is_thin_function, is_thin_module}
 use Rattle.beam_code.specs.Keys.{Key}
+use Rattle.beam_code.specs.LabelRules.{opcodes}
 use Rattle.ej_term.specs.declared.asm_term.AsmTerm.{AsmTerm}
-use Rattle.beam_code.specs.Opcode.{Integer, Atom, Nil, X, Of, Opcode, Label, Line, FuncInfo, Move, Return, Unknown}
+use Rattle.beam_code.specs.Opcode.{Integer, Atom, Nil, X, Of, Opcode, Label, Line, FuncInfo, Move, Return, Unknown, is_known}
 use Rattle.beam_code.proofs.SameCode.{same-code, same-module}
 use Rattle.erjang_top.specs.declared.source.form.Form.{Form}
 use Rattle.erjang_top.specs.declared.source.form.Form.TheVariants as form
 use Rattle.erjang_top.specs.Rows.{source_code, code_row, function_rows, rows_of}
 use Rattle.erjang_top.specs.Source.{AreOf}
 use Rattle.erjang_top.specs.Thin.{OneModule}
-use Rattle.erjang_top.proofs.Conjunction.{clash}
-use Rattle.erjang_top.proofs.ModuleRows.{module_rows, rows-terms, rows-forms}
+use Rattle.erjang_top.proofs.Conjunction.{and_left, and_right, clash}
+use Rattle.erjang_top.proofs.ModuleRows.{module_rows, functions-plain, rows-terms, rows-forms}
 use Rattle.erjang_top.proofs.FormLaw.{same-rows}
 use Rattle.erjang_top.proofs.Reading.{same_forms}
 
@@ -101,34 +102,52 @@ abbrev keys_of : Form → List Key
 keys_of (form.Exports keys) = keys
 keys_of _ = []
 
--- functions are told by their rows
-same-functions : (fs gs : List Function) → flat_map function_rows fs ≡ flat_map function_rows gs → fs ≡ gs
-same-functions [] [] e = refl
-same-functions [] (g ∷ gs) e = absurd (cc)
-same-functions (f ∷ fs) [] e = absurd (cc)
-same-functions (f ∷ fs) (g ∷ gs) e =
+-- a plain instruction is one that is read so far
+code-known : (o : Opcode) → is_thin_opcode o ≡ true → is_known o ≡ true
+code-known (Label n) e = refl
+code-known Line e = refl
+code-known (FuncInfo owner name arity) e = refl
+code-known (Move from to) e = refl
+code-known Return e = refl
+code-known Unknown e = e
+
+codes-known : (code : List Opcode) → list_all is_thin_opcode code ≡ true → list_all is_known code ≡ true
+codes-known [] e = refl
+codes-known (o ∷ code) e =
+    let here = code-known o (and_left (is_thin_opcode o) (list_all is_thin_opcode code) e) in
+    let others = codes-known code (and_right (is_thin_opcode o) (list_all is_thin_opcode code) e) in
+    rw here others
+
+-- plain functions are told by their rows
+same-functions : (fs gs : List Function) → list_all is_thin_function fs ≡ true → flat_map function_rows fs ≡ flat_map function_rows gs → fs ≡ gs
+same-functions [] [] thin e = refl
+same-functions [] (g ∷ gs) thin e = absurd (cc)
+same-functions (f ∷ fs) [] thin e = absurd (cc)
+same-functions (f ∷ fs) (g ∷ gs) thin e =
+    let plain = and_left (is_thin_function f) (list_all is_thin_function fs) thin in
+    let known = codes-known (opcodes f) (and_right (is_thin_name f.name && nat_le f.arity 255 && is_count f.entry) (list_all is_thin_opcode (opcodes f)) plain) in
     let head = ap first e in
     let rest = split f.code g.code (flat_map function_rows fs) (flat_map function_rows gs) (functions-begin fs) (functions-begin gs) (ap others e) in
     let name : f.name ≡ g.name = ap name_of head in
     let arity : f.arity ≡ g.arity = ap arity_of head in
     let entry : f.entry ≡ g.entry = ap entry_of head in
-    let code = same-code f.code g.code rest.code in
+    let code = same-code f.code g.code known rest.code in
     let here : f ≡ g = λ i. record { name = name i; arity = arity i; entry = entry i; code = code i } in
-    let behind = same-functions fs gs rest.behind in
+    let behind = same-functions fs gs (and_right (is_thin_function f) (list_all is_thin_function fs) thin) rest.behind in
     λ i. here i ∷ behind i
 
--- rows tell the name, the exports and the functions that they are of
+-- rows of plain functions tell the name, the exports and the functions that they are of
 pub record SameRows (n n' : List ℕ) (e e' : List Key) (f f' : List Function) : Type 0 where
   pub name : n ≡ n'
   pub exports : e ≡ e'
   pub functions : f ≡ f'
 
 pub rows-tell : (labels labels' : ℕ) (name name' : List ℕ) (exports exports' : List Key) (functions functions' : List Function)
-    → rows_of labels name exports functions ≡ rows_of labels' name' exports' functions' → SameRows name name' exports exports' functions functions'
-rows-tell labels labels' name name' exports exports' functions functions' e = record {
+    → list_all is_thin_function functions ≡ true → rows_of labels name exports functions ≡ rows_of labels' name' exports' functions' → SameRows name name' exports exports' functions functions'
+rows-tell labels labels' name name' exports exports' functions functions' thin e = record {
   name = ap (λ rs. name_of (first rs)) e;
   exports = ap (λ rs. keys_of (first (others rs))) e;
-  functions = same-functions functions functions' (ap (λ rs. others (others (others (others rs)))) e);
+  functions = same-functions functions functions' thin (ap (λ rs. others (others (others (others rs)))) e);
 }
 
 -- and so do the forms of a plain module
@@ -137,7 +156,7 @@ forms-tell : (forms : List AsmTerm) (labels labels' : ℕ) (m n : Module) → is
 forms-tell forms labels labels' m n count count' thin thin' e e' =
     let terms = rows-terms labels m.name m.exports m.functions ∙ sym e ∙ e' ∙ sym (rows-terms labels' n.name n.exports n.functions) in
     let rows = same-rows (module_rows labels m) (module_rows labels' n) (rows-forms labels m count thin) (rows-forms labels' n count' thin') terms in
-    let told = rows-tell labels labels' m.name n.name m.exports n.exports m.functions n.functions rows in
+    let told = rows-tell labels labels' m.name n.name m.exports n.exports m.functions n.functions (functions-plain m thin) rows in
     same-module m n told.name told.exports told.functions
 
 pub one_module : OneModule

@@ -12,13 +12,13 @@ use Rattle.beam_code.specs.Keys.{Key}
 use Rattle.erjang_top.specs.declared.source.form.Form.{Form}
 use Rattle.erjang_top.specs.declared.source.form.Form.TheVariants as form
 use Rattle.erjang_top.specs.declared.source.parts.Parts.{Parts}
-use Rattle.erjang_top.specs.Rows.{form_term, function_rows, rows_of, IsFormOf}
+use Rattle.erjang_top.specs.Rows.{form_term, stands, function_rows, rows_stand, rows_of, IsFormOf}
 use Rattle.erjang_top.specs.Source.{AreOf, ReadsParts, IsModuleOf, IsOfModule, ReadsModule}
 use Rattle.erjang_top.specs.Thin.{Thin, IsNotBuilt}
 use Rattle.erjang_top.proofs.Conjunction.{and_left, and_right, clash}
 use Rattle.erjang_top.proofs.FormLaw.{read-rows}
-use Rattle.erjang_top.proofs.FunctionRows.{stands, rows-stand}
-use Rattle.erjang_top.proofs.ModuleRows.{module_rows, rows-terms, rows-forms}
+use Rattle.erjang_top.proofs.FunctionRows.{rows-stand}
+use Rattle.erjang_top.proofs.ModuleRows.{module_rows, functions-plain, rows-terms, rows-forms}
 use Rattle.erjang_top.proofs.OneModule.{rows-tell}
 use Rattle.erjang_top.proofs.Reading.{same_forms}
 
@@ -37,15 +37,16 @@ stand-terms (t ∷ terms) (f ∷ rows) a all =
     λ i. here i ∷ rest i
 
 -- the rows of parts that are read of terms tell that these are the parts' forms
-rows-read : (terms : List AsmTerm) (labels : ℕ) (name : List ℕ) (exports : List Key) (functions : List Function) → AllZip IsFormOf terms (rows_of labels name exports functions) → terms ≡ forms_of labels name exports functions
-rows-read (owner ∷ keys ∷ attributes ∷ count ∷ terms) labels name exports functions all =
-    let rest = stand-terms terms (flat_map function_rows functions) (rows-stand functions) all.1.1.1.1 in
+rows-read : (terms : List AsmTerm) (labels : ℕ) (name : List ℕ) (exports : List Key) (functions : List Function) → rows_stand functions ≡ true → AllZip IsFormOf terms (rows_of labels name exports functions)
+    → terms ≡ forms_of labels name exports functions
+rows-read (owner ∷ keys ∷ attributes ∷ count ∷ terms) labels name exports functions stand all =
+    let rest = stand-terms terms (flat_map function_rows functions) stand all.1.1.1.1 in
     let same : owner ∷ keys ∷ attributes ∷ count ∷ terms ≡ map form_term (rows_of labels name exports functions) = λ i. sym all.0 i ∷ sym all.1.0 i ∷ sym all.1.1.0 i ∷ sym all.1.1.1.0 i ∷ rest i in
     same ∙ rows-terms labels name exports functions
-rows-read [] labels name exports functions all = absurd all
-rows-read (owner ∷ []) labels name exports functions all = absurd all.1
-rows-read (owner ∷ keys ∷ []) labels name exports functions all = absurd all.1.1
-rows-read (owner ∷ keys ∷ attributes ∷ []) labels name exports functions all = absurd all.1.1.1
+rows-read [] labels name exports functions stand all = absurd all
+rows-read (owner ∷ []) labels name exports functions stand all = absurd all.1
+rows-read (owner ∷ keys ∷ []) labels name exports functions stand all = absurd all.1.1
+rows-read (owner ∷ keys ∷ attributes ∷ []) labels name exports functions stand all = absurd all.1.1.1
 
 -- the forms that were read are the rows of each plain module whose forms they are
 module-read : (terms : List AsmTerm) (read : List Form) (labels : ℕ) (m : Module) → AllZip IsFormOf terms read → is_count labels ≡ true → is_thin_module m ≡ true → AreOf terms labels m → read ≡ module_rows labels m
@@ -56,18 +57,19 @@ module-read terms read labels m all count thin are =
 pub parts-read : {E : Type 0} (terms : List AsmTerm) (read : List Form) (r : Result (Option Parts) E) → AllZip IsFormOf terms read
     → IfOk r (λ made. IfSome made (λ (parts : Parts). rows_of parts.labels parts.owner parts.exports parts.functions ≡ read))
     → IfOk r (λ made. IfSome made (λ (parts : Parts). is_count parts.labels ≡ true))
-    → IfOk r (λ made. IfNone made ((labels : ℕ) (owner : List ℕ) (exports : List Key) (functions : List Function) → rows_of labels owner exports functions ≡ read → ⊥))
+    → IfOk r (λ made. IfSome made (λ (parts : Parts). rows_stand parts.functions ≡ true))
+    → IfOk r (λ made. IfNone made ((labels : ℕ) (owner : List ℕ) (exports : List Key) (functions : List Function) → rows_stand functions ≡ true → rows_of labels owner exports functions ≡ read → ⊥))
     → IfOk r (ReadsParts terms)
-parts-read terms read (Err e) all made count none = tt
-parts-read terms read (Ok (Some p)) all made count none = (
+parts-read terms read (Err e) all made count stand none = tt
+parts-read terms read (Ok (Some p)) all made count stand none = (
   count,
-  rows-read terms p.labels p.owner p.exports p.functions (subst (AllZip IsFormOf terms) (sym made) all),
+  rows-read terms p.labels p.owner p.exports p.functions stand (subst (AllZip IsFormOf terms) (sym made) all),
   λ labels m small thin are.
-      let told = rows-tell labels p.labels m.name p.owner m.exports p.exports m.functions p.functions (sym (module-read terms read labels m all small thin are) ∙ sym made) in
+      let told = rows-tell labels p.labels m.name p.owner m.exports p.exports m.functions p.functions (functions-plain m thin) (sym (module-read terms read labels m all small thin are) ∙ sym made) in
       record { name = told.name; exports = told.exports; functions = told.functions },
 )
-parts-read terms read (Ok None) all made count none =
-    λ labels m small thin are. none labels m.name m.exports m.functions (sym (module-read terms read labels m all small thin are))
+parts-read terms read (Ok None) all made count stand none =
+    λ labels m small thin are. none labels m.name m.exports m.functions (rows-stand m.functions (functions-plain m thin)) (sym (module-read terms read labels m all small thin are))
 
 -- where the parts of the forms are no module's, no module has the forms
 pub no-module : (terms : List AsmTerm) (o : Option Parts) (p : Parts) (r : Option Module) → ReadsParts terms o → o ≡ Some p → IsModuleOf p r → r ≡ None → (m : Module) → IsOfModule terms m → ⊥

@@ -17,3 +17,4 @@ seen_code code.Line = opcode.Line
 seen_code (code.FuncInfo owner name arity) = opcode.FuncInfo owner.now name.now arity
 seen_code (code.Move from to) = opcode.Move (seen_source from) to
 seen_code code.Return = opcode.Return
+seen_code code.Other = opcode.Unknown

@@ -1,5 +1,5 @@
 -- The forms of a text as rows: the term of each, and the rows of a module.
-use Rattle.std.specs.Prelude.{◌≡◌, ℕ, ℤ, Bool, true, false, nat_le, ◌&&◌, List, [], ◌∷◌, map, codes, Option, None, Some}
+use Rattle.std.specs.Prelude.{◌≡◌, ℕ, ℤ, Bool, true, false, nat_le, ◌&&◌, ◌||◌, List, [], ◌∷◌, map, codes, Option, None, Some}
 use Rattle.std.specs.List.{list_all, flat_map}
 use Rattle.ej_term.specs.declared.asm_term.AsmTerm.{AsmTerm}
 use Rattle.ej_term.specs.declared.asm_term.AsmTerm.TheVariants as term
@@ -8,7 +8,7 @@ use Rattle.beam_code.specs.Forms.{number, list, tagged, x_form, export_form, opc
 use Rattle.beam_code.specs.Keys.{Key}
 use Rattle.beam_code.specs.Opcode.{Integer, Atom, Nil, X, Of, Opcode, Label, Line, FuncInfo, Move, Return, Unknown}
 use Rattle.beam_code.specs.Opcode as code
-use Rattle.beam_code.specs.Accepted.{is_count}
+use Rattle.beam_code.specs.Accepted.{is_count, is_register}
 use Rattle.erjang_top.specs.declared.source.form.Form.{Form}
 use Rattle.erjang_top.specs.declared.source.form.Form.TheVariants as form
 use Rattle.erjang_top.specs.declared.source.form.Source.{Source}
@@ -106,13 +106,27 @@ source_code (source.Integer n) = Of (Integer n)
 source_code (source.Atom name) = Of (Atom name)
 source_code source.Nil = Of Nil
 
+-- a source is no register, or one of those that there are
+abbrev pub is_moved : Source → Bool
+is_moved (source.X n) = is_register n
+is_moved _ = true
+
+-- the form of an instruction that is read so far, whose registers there are
 abbrev pub is_instruction : Form → Bool
 is_instruction (form.Label n) = true
 is_instruction form.Line = true
 is_instruction (form.FuncInfo owner name arity) = true
-is_instruction (form.Move from to) = true
+is_instruction (form.Move from to) = is_moved from && is_register to
 is_instruction form.Return = true
 is_instruction _ = false
+
+abbrev pub is_function : Form → Bool
+is_function (form.Function name arity entry) = true
+is_function _ = false
+
+-- a form that stands among a function's rows
+abbrev pub stands : Form → Bool
+stands f = is_function f || is_instruction f
 
 -- whether a form may stand behind those of the functions
 abbrev pub can_follow : List Function → Form → Bool
@@ -123,6 +137,10 @@ can_follow (g ∷ functions) f = is_instruction f
 -- the rows of a function
 abbrev pub function_rows : Function → List Form
 function_rows f = form.Function f.name f.arity f.entry ∷ map (λ i. code_row (opcode i)) f.code
+
+-- each row of the functions is a function's or an instruction's that is read so far
+abbrev pub rows_stand : List Function → Bool
+rows_stand functions = list_all stands (flat_map function_rows functions)
 
 -- the rows of a module of that name, exports and functions
 abbrev pub rows_of : ℕ → List ℕ → List Key → List Function → List Form

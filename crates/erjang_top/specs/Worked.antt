@@ -8,27 +8,35 @@ use Rattle.ej_world.specs.World.{Choice, Start, Run}
 use Rattle.beam_code.specs.declared.instr.Instr.{Instr}
 use Rattle.beam_code.specs.declared.module.Function.{Function}
 use Rattle.beam_code.specs.declared.module.Module.{Module}
+use Rattle.beam_code.specs.declared.operand.Operand.{Operand}
 use Rattle.beam_code.specs.declared.operand.Operand.TheVariants as operand
 use Rattle.beam_code.specs.declared.operand.Reg.TheVariants as register
 use Rattle.beam_code.specs.declared.operand.Src.{Src}
 use Rattle.beam_code.specs.declared.operand.Src.TheVariants as source
+use Rattle.beam_code.specs.Fits.{fits}
 use Rattle.beam_code.specs.Turn.{beam}
-use Rattle.beam_code.specs.Opcode.{is_known, opcode_of}
 use Rattle.erjang_top.specs.ClassTurn.{jvm}
 use Rattle.erjang_top.specs.ModuleClass.{class_of}
 
-abbrev pub label_instruction : ℕ → Instr
-label_instruction n = record { row = 1; operands = operand.Count n ∷ []; fits_row = refl }
+abbrev pub label_instruction : (n : ℕ) → fits 1 (operand.Count n ∷ []) ≡ true → Instr
+label_instruction n fitting = record { row = 1; operands = operand.Count n ∷ []; fits_row = fitting }
 
 abbrev pub line_instruction : Instr
 line_instruction = record { row = 2; operands = []; fits_row = refl }
 
-abbrev pub info_instruction : List ℕ → ℕ → Instr
-info_instruction name arity = record { row = 4; operands = operand.Src (source.Atom (codes "m")) ∷ operand.Src (source.Atom name) ∷ operand.Count arity ∷ []; fits_row = refl }
+-- of a function of the module m
+abbrev pub info_operands : List ℕ → ℕ → List Operand
+info_operands name arity = operand.Src (source.Atom (codes "m")) ∷ operand.Src (source.Atom name) ∷ operand.Count arity ∷ []
 
--- from a source that is read so far
-abbrev pub move_instruction : (from : Src) (to : ℕ) → is_known (opcode_of 5 (operand.Src from ∷ operand.Reg (register.X to) ∷ [])) ≡ true → Instr
-move_instruction from to fits = record { row = 5; operands = operand.Src from ∷ operand.Reg (register.X to) ∷ []; fits_row = fits }
+abbrev pub info_instruction : (name : List ℕ) (arity : ℕ) → fits 4 (info_operands name arity) ≡ true → Instr
+info_instruction name arity fitting = record { row = 4; operands = info_operands name arity; fits_row = fitting }
+
+-- to an x register
+abbrev pub move_operands : Src → ℕ → List Operand
+move_operands from to = operand.Src from ∷ operand.Reg (register.X to) ∷ []
+
+abbrev pub move_instruction : (from : Src) (to : ℕ) → fits 5 (move_operands from to) ≡ true → Instr
+move_instruction from to fitting = record { row = 5; operands = move_operands from to; fits_row = fitting }
 
 abbrev pub x : ℕ → Src
 x n = source.Reg (register.X n)
@@ -38,7 +46,7 @@ return_instruction = record { row = 22; operands = []; fits_row = refl }
 
 -- f/1, which returns its argument
 abbrev pub identity : Function
-identity = record { name = codes "f"; arity = 1; entry = 2; code = label_instruction 1 ∷ info_instruction (codes "f") 1 ∷ label_instruction 2 ∷ return_instruction ∷ [] }
+identity = record { name = codes "f"; arity = 1; entry = 2; code = label_instruction 1 refl ∷ info_instruction (codes "f") 1 refl ∷ label_instruction 2 refl ∷ return_instruction ∷ [] }
 
 -- the module m of it, which exports it
 abbrev pub public_module : Module
@@ -55,17 +63,20 @@ second = record {
   arity = 2;
   entry = 4;
   code =
-      label_instruction 3 ∷ line_instruction ∷ info_instruction (codes "f") 2 ∷ label_instruction 4 ∷ move_instruction (x 1) 1023 refl ∷ label_instruction 9
+      label_instruction 3 refl ∷ line_instruction ∷ info_instruction (codes "f") 2 refl ∷ label_instruction 4 refl ∷ move_instruction (x 1) 1023 refl ∷ label_instruction 9 refl
       ∷ move_instruction (x 1023) 0 refl ∷ return_instruction ∷ move_instruction source.Nil 0 refl ∷ return_instruction ∷ [];
 }
 
 -- a function without arguments that returns a value
-abbrev pub constant : List ℕ → ℕ → (value : Src) → is_known (opcode_of 5 (operand.Src value ∷ operand.Reg (register.X 0) ∷ [])) ≡ true → Function
-constant name label value fits = record {
+abbrev pub constant : List ℕ → (label : ℕ) (value : Src) → fits 1 (operand.Count label ∷ []) ≡ true → fits 1 (operand.Count (label + 1) ∷ []) ≡ true
+    → fits 5 (move_operands value 0) ≡ true → Function
+constant name label value label_fits entry_fits move_fits = record {
   name = name;
   arity = 0;
   entry = label + 1;
-  code = label_instruction label ∷ info_instruction name 0 ∷ label_instruction (label + 1) ∷ move_instruction value 0 fits ∷ return_instruction ∷ [];
+  code =
+      label_instruction label label_fits ∷ info_instruction name 0 refl ∷ label_instruction (label + 1) entry_fits ∷ move_instruction value 0 move_fits ∷ return_instruction
+      ∷ [];
 }
 
 -- a function that no call fits
@@ -74,7 +85,8 @@ refuses = record {
   name = codes "no";
   arity = 1;
   entry = 12;
-  code = label_instruction 11 ∷ info_instruction (codes "no") 1 ∷ label_instruction 12 ∷ info_instruction (codes "no") 1 ∷ return_instruction ∷ [];
+  code =
+      label_instruction 11 refl ∷ info_instruction (codes "no") 1 refl ∷ label_instruction 12 refl ∷ info_instruction (codes "no") 1 refl ∷ return_instruction ∷ [];
 }
 
 -- the module m of several functions
@@ -83,8 +95,8 @@ moves_module = record {
   name = codes "m";
   exports = (codes "no", 1) ∷ (codes "f", 2) ∷ (codes "int", 0) ∷ (codes "atom", 0) ∷ (codes "nil", 0) ∷ (codes "f", 2) ∷ [];
   functions =
-      identity ∷ second ∷ constant (codes "int") 5 (source.Int (negsuc 9223372036854775807)) refl ∷ constant (codes "atom") 7 (source.Atom (codes "int")) refl
-      ∷ refuses ∷ constant (codes "nil") 13 source.Nil refl ∷ [];
+      identity ∷ second ∷ constant (codes "int") 5 (source.Int (negsuc 9223372036854775807)) refl refl refl ∷ constant (codes "atom") 7 (source.Atom (codes "int")) refl refl refl
+      ∷ refuses ∷ constant (codes "nil") 13 source.Nil refl refl refl ∷ [];
   distinct = refl;
   exported = refl;
 }

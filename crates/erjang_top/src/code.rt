@@ -1,8 +1,8 @@
 //! An instruction by its row.
 
-ghost use Rattle.std.specs.Prelude.{◌≡◌, true, Some, IsSome};
+ghost use Rattle.std.specs.Prelude.{◌≡◌, option_map};
 ghost use Rattle.beam_code.specs.Forms.{opcode};
-ghost use Rattle.beam_code.specs.Opcode.{label_of, func_info_of, move_of, source_of, is_known};
+ghost use Rattle.beam_code.specs.Opcode.{label_of, func_info_of, move_of, move_to as move_of_source, source_of, without_operands};
 ghost use Rattle.erjang_top.specs.Code.{seen_code, seen_source};
 
 use beam_code::{Instr, Operand, Reg, Src, rows};
@@ -32,6 +32,8 @@ pub enum Code<'a> {
         to: u16,
     },
     Return,
+    /// None of these.
+    Other,
 }
 
 /// What an instruction stands for.
@@ -41,28 +43,36 @@ pub fn decode(instr: &Instr) -> Code<'_>
     let operands = instr.operands.as_slice();
     match instr.row {
         rows::LABEL => decode_label(operands),
-        rows::LINE => Code::Line,
+        rows::LINE => decode_alone(Code::Line, operands),
         rows::FUNC_INFO => decode_func_info(operands),
         rows::MOVE => decode_move(operands),
-        rows::RETURN => Code::Return,
-        _ => unreachable!(),
+        rows::RETURN => decode_alone(Code::Return, operands),
+        _ => Code::Other,
     }
 }
 
 // `{label,n}` of its operand.
 fn decode_label(operands: &[Operand]) -> Code<'_>
-    requires { is_known (label_of operands.now) ≡ true }
     ensures { seen_code result ≡ label_of operands.now }
 {
     match operands {
         [Operand::Count(n)] => Code::Label(*n),
-        _ => unreachable!(),
+        _ => Code::Other,
+    }
+}
+
+// An instruction that has no operands.
+fn decode_alone<'a>(code: Code<'a>, operands: &[Operand]) -> Code<'a>
+    ensures { seen_code result ≡ without_operands (seen_code code.entry) operands.now }
+{
+    match operands {
+        [] => code,
+        _ => Code::Other,
     }
 }
 
 // `{func_info,{atom,M},{atom,F},n}` of its operands.
 fn decode_func_info(operands: &[Operand]) -> Code<'_>
-    requires { is_known (func_info_of operands.now) ≡ true }
     ensures { seen_code result ≡ func_info_of operands.now }
 {
     match operands {
@@ -75,34 +85,39 @@ fn decode_func_info(operands: &[Operand]) -> Code<'_>
             name,
             arity: *arity,
         },
-        _ => unreachable!(),
+        _ => Code::Other,
     }
 }
 
-// `{move,S,D}` of its operands.
+// `{move,S,{x,N}}` of its operands.
 fn decode_move(operands: &[Operand]) -> Code<'_>
-    requires { is_known (move_of operands.now) ≡ true }
     ensures { seen_code result ≡ move_of operands.now }
 {
     match operands {
-        [Operand::Src(from), Operand::Reg(Reg::X(to))] => Code::Move {
-            from: decode_source(from),
-            to: *to,
-        },
-        _ => unreachable!(),
+        [Operand::Src(from), Operand::Reg(Reg::X(to))] => move_to(decode_source(from), *to),
+        _ => Code::Other,
     }
 }
 
-// What a move's source is.
-fn decode_source(from: &Src) -> Source<'_>
-    requires { IsSome (source_of from.now) }
-    ensures { source_of from.now ≡ Some (seen_source result) }
+// The move of a source to a register.
+fn move_to(from: Option<Source<'_>>, to: u16) -> Code<'_>
+    ensures { seen_code result ≡ move_of_source (option_map seen_source from.entry) to }
 {
     match from {
-        Src::Reg(Reg::X(n)) => Source::X(*n),
-        Src::Int(number) => Source::Integer(*number),
-        Src::Atom(name) => Source::Atom(name),
-        Src::Nil => Source::Nil,
-        _ => unreachable!(),
+        Some(from) => Code::Move { from, to },
+        None => Code::Other,
+    }
+}
+
+// What a move's source is: an x register, an integer, an atom or nil, or none of these.
+fn decode_source(from: &Src) -> Option<Source<'_>>
+    ensures { option_map seen_source result ≡ source_of from.now }
+{
+    match from {
+        Src::Reg(Reg::X(n)) => Some(Source::X(*n)),
+        Src::Int(number) => Some(Source::Integer(*number)),
+        Src::Atom(name) => Some(Source::Atom(name)),
+        Src::Nil => Some(Source::Nil),
+        _ => None,
     }
 }

@@ -1,1 +1,2 @@
+mod ArityLemmas
 mod ShapeLemmas

@@ -6,7 +6,7 @@ use Rattle.genop_table.specs.declared.instructions.InstructionRow.{InstructionRo
 use Rattle.genop_table.specs.InstructionRows.{instruction_of}
 use Rattle.genop_table.specs.Instructions.{Instruction, instructions, shape_of}
 
-find_mapped : {X Y : Type 0} (f : X → Y) (test : Y → Bool) (xs : List X) → find test (map f xs) ≡ option_map f (find (λ x. test (f x)) xs)
+pub find_mapped : {X Y : Type 0} (f : X → Y) (test : Y → Bool) (xs : List X) → find test (map f xs) ≡ option_map f (find (λ x. test (f x)) xs)
 find_mapped f test [] = refl
 find_mapped f test (x ∷ xs) = by (test (f x)) refl (find_mapped f test xs)
   where

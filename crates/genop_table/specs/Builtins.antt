@@ -1,7 +1,9 @@
 -- The tables of builtin functions (OTP 24, `bif.tab`).
 use Rattle.std.specs.Prelude.{ℕ, Bool, not, nat_le, ◌&&◌, if◌then◌else◌, List, [], ◌∷◌, codes, Option, None}
+use Rattle.std.specs.List.{list_any, find}
+use Rattle.std.specs.Option.{option_map}
 use Rattle.std.specs.Str.{bytes_eq}
-use Rattle.ej_tables.specs.Rows.{Entry, number_of}
+use Rattle.ej_tables.specs.Rows.{Entry, has_number, number_of}
 
 abbrev pub row : ℕ → List ℕ → ℕ → Entry
 row number name arity = record { name = name; arity = arity; number = number }
@@ -122,6 +124,17 @@ builtin_number owner name arity =
 -- a builtin that may stand in a guard
 abbrev pub is_guard : ℕ → Bool
 is_guard number = nat_le 1 number && nat_le number 48
+
+-- a guard builtin of that name, of whatever arity
+abbrev pub is_guard_named : List ℕ → Entry → Bool
+is_guard_named name entry = is_guard entry.number && bytes_eq entry.name name
+
+abbrev pub is_guard_name : List ℕ → Bool
+is_guard_name name = list_any (is_guard_named name) erlang_entries
+
+-- the arity of the builtin of that number, where it is one of the module `erlang`
+abbrev pub arity_of : ℕ → Option ℕ
+arity_of number = option_map (λ (entry : Entry). entry.arity) (find (has_number number) erlang_entries)
 
 -- a builtin that may come back with a value
 abbrev pub does_return : ℕ → Bool

@@ -1,8 +1,9 @@
 //! The builtin functions.
 
 ghost use Rattle.std.specs.Prelude.{◌≡◌, map};
+ghost use Rattle.std.specs.List.{list_any};
 ghost use Rattle.ej_tables.specs.RowEntries.{entry_of};
-ghost use Rattle.genop_table.specs.Builtins.{erlang_entries, lists_entries, maps_entries, builtin_number, is_guard, does_return};
+ghost use Rattle.genop_table.specs.Builtins.{erlang_entries, lists_entries, maps_entries, builtin_number, is_guard, is_guard_name as guard_is_named, is_guard_named, arity_of, does_return};
 
 use ej_tables::{Row, Table};
 
@@ -114,6 +115,12 @@ static MAPS: [Row; 11] = [
     row!(70, "merge", 2),
 ];
 
+fn erlang_rows() -> &'static [Row; 76]
+    ensures { map entry_of result.now ≡ erlang_entries }
+{
+    &ERLANG
+}
+
 fn erlang() -> Table<76>
     ensures { map entry_of result ≡ erlang_entries }
 {
@@ -146,6 +153,41 @@ pub fn builtin(module: &[u8], name: &[u8], arity: u8) -> Option<u16>
         return maps().find(name, arity);
     }
     None
+}
+
+/// Whether a builtin of the module `erlang` with that name, as UTF-8 bytes, may stand in a guard, whatever its arity.
+pub fn is_guard_name(name: &[u8]) -> bool
+    ensures { result ≡ guard_is_named name.now }
+{
+    any_guard(erlang_rows(), name)
+}
+
+// Whether one of the rows is of a guard builtin with that name.
+fn any_guard(rows: &[Row], name: &[u8]) -> bool
+    ensures { result ≡ list_any (is_guard_named name.now) (map entry_of rows.now) }
+{
+    for row in rows {
+        if is_named_guard(row, name) {
+            return true;
+        }
+    }
+    false
+}
+
+fn is_named_guard(row: &Row, name: &[u8]) -> bool
+    ensures { result ≡ is_guard_named name.now (entry_of row.now) }
+{
+    guard(row.number) && row.name.as_bytes() == name
+}
+
+/// The arity of the builtin of that number, where it is one of the module `erlang`. None where it is not.
+pub fn erlang_arity(number: u16) -> Option<u8>
+    ensures { result ≡ arity_of number }
+{
+    match erlang().by_number(number) {
+        Some(row) => Some(row.arity),
+        None => None,
+    }
 }
 
 /// Whether the builtin of that number may stand in a guard: those from 1 to 48.

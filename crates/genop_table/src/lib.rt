@@ -10,6 +10,6 @@ pub mod builtins;
 pub mod instructions;
 pub mod tests;
 
-pub use builtins::{builtin, guard, returns};
+pub use builtins::{builtin, erlang_arity, guard, is_guard_name, returns};
 pub use instructions::{InstructionRow, Part, instruction, shape};
 pub use tests::test;

@@ -71,7 +71,9 @@ fn is_plain_instr(instr: &Instr) -> bool
     match decode(instr) {
         Code::FuncInfo { owner, name, .. } => is_plain_name(owner) && is_plain_name(name),
         Code::Move { from, to } => is_plain_source(from) && to < REGISTERS,
-        _ => true,
+        Code::Label(label) => label <= LAST_LABEL,
+        Code::Line | Code::Return => true,
+        Code::Other => false,
     }
 }
 

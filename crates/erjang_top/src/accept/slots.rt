@@ -64,6 +64,7 @@ impl Registers {
             Code::FuncInfo { .. } => Some(true),
             Code::Move { from, to } => self.step_move(from, to),
             Code::Return => Some(self.reads(Source::X(0))),
+            Code::Other => Some(false),
         }
     }
 

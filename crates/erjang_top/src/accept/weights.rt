@@ -1,6 +1,6 @@
 //! What a function and a module's constants weigh.
 
-ghost use Rattle.std.specs.Prelude.{◌≡◌, ◌+◌, ◌*◌, nat_le, IfOk};
+ghost use Rattle.std.specs.Prelude.{◌≡◌, ◌≤◌, ◌+◌, ◌*◌, nat_le, IfOk};
 ghost use Rattle.std.specs.List.{list_all};
 ghost use Rattle.beam_code.specs.Forms.{opcode};
 ghost use Rattle.beam_code.specs.Weights.{instruction_weight as weight_of, weight, fits as is_within};
@@ -56,7 +56,8 @@ fn is_light(function: &Function) -> bool
 }
 
 fn instruction_weight(instr: &Instr) -> u32
-    ensures { result ≡ weight_of (opcode instr.now) }
+    ensures is { result ≡ weight_of (opcode instr.now) }
+    ensures small { result ≤ 32 }
 {
     match decode(instr) {
         Code::FuncInfo { .. } => 32,

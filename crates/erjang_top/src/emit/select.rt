@@ -164,7 +164,7 @@ fn push_instr(
             push_ops(code, &RETURN_CODE)?;
             Ok(false)
         }
-        Code::Label(_) | Code::Line => Ok(true),
+        Code::Label(_) | Code::Line | Code::Other => Ok(true),
     }
 }
 
@@ -257,7 +257,16 @@ fn written_register(instr: &Instr) -> u16
     ensures small { result ≤ 1024 }
 {
     match decode(instr) {
-        Code::Move { to, .. } => to + 1,
+        Code::Move { to, .. } => count_up_to(to),
         _ => 0,
     }
+}
+
+/// How many registers there are up to that one.
+fn count_up_to(register: u16) -> u16
+    requires { is_register register ≡ true }
+    ensures is { result ≡ register + 1 }
+    ensures small { result ≤ 1024 }
+{
+    register + 1
 }

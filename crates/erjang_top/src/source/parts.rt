@@ -4,7 +4,7 @@ ghost use Rattle.std.specs.Prelude.{◌≡◌, ℕ, List, IfOk, IfSome, IfNone, 
 ghost use Rattle.beam_code.specs.Keys.{Key};
 ghost use Rattle.beam_code.specs.Accepted.{is_count};
 ghost use Rattle.beam_code.specs.declared.module.Function.{Function as FunctionOf};
-ghost use Rattle.erjang_top.specs.Rows.{rows_of};
+ghost use Rattle.erjang_top.specs.Rows.{rows_of, rows_stand};
 
 use crate::source::form::Form;
 use crate::source::functions::functions;
@@ -27,7 +27,8 @@ pub struct Parts {
 pub(crate) fn take_apart(alloc: Global, forms: &[Form]) -> Result<Option<Parts>, AllocError>
     ensures made { IfOk result (λ made. IfSome made (λ parts. rows_of parts.labels parts.owner parts.exports parts.functions ≡ forms.now)) }
     ensures count { IfOk result (λ made. IfSome made (λ parts. is_count parts.labels ≡ true)) }
-    ensures none { IfOk result (λ made. IfNone made ((labels : ℕ) (owner : List ℕ) (exports : List Key) (functions : List FunctionOf) → rows_of labels owner exports functions ≡ forms.now → ⊥)) }
+    ensures stand { IfOk result (λ made. IfSome made (λ parts. rows_stand parts.functions ≡ true)) }
+    ensures none { IfOk result (λ made. IfNone made ((labels : ℕ) (owner : List ℕ) (exports : List Key) (functions : List FunctionOf) → rows_stand functions ≡ true → rows_of labels owner exports functions ≡ forms.now → ⊥)) }
 {
     let [
         Form::Module(owner),

@@ -2,7 +2,8 @@ use Rattle.std.proofs.Common.{sym, ap, ◌∙◌}
 use Rattle.std.specs.List.{list_all}
 use Rattle.beam_code.specs.Accepted.{is_thin_function}
 use Rattle.erjang_top.specs.SlotCheck.{passes}
-use Rattle.erjang_top.proofs.AcceptedLaw.{refused, slots-pass, functions-plain, all-decided}
+use Rattle.erjang_top.proofs.AcceptedLaw.{refused, slots-pass, all-decided}
+use Rattle.erjang_top.proofs.ModuleRows.{functions-plain}
 use Rattle.erjang_top.proofs.accept.accepts.Goals as goal
 
 pub are_well_slotted-requires : goal.are_well_slotted-requires

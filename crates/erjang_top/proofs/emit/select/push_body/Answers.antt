@@ -3,7 +3,7 @@ use Rattle.beam_code.specs.Forms.{opcode}
 use Rattle.beam_code.specs.Accepted.{is_thin_opcode}
 use Rattle.erjang_top.specs.SeenValues.{seen_value}
 use Rattle.erjang_top.proofs.Appends.{step_all}
-use Rattle.erjang_top.proofs.SelectSteps.{body-step}
+use Rattle.erjang_top.proofs.SelectSteps.{body-step, body-last}
 use Rattle.erjang_top.proofs.emit.select.push_body.Goals as goal
 
 pub push_instr-requires-clause-thin : goal.push_instr-requires-clause-thin
@@ -15,3 +15,10 @@ loop-instr-preserved c = let t = c.if-not-branch.false in let f = c.in_ok-push_i
   written = body-step (map seen_value c.args.values.now.keys) c.args.body.now c.loop-instr.instr-index c.instr-item.result _ c.loop-instr.code.items c.push_instr.new.code.items
       c.loop-instr-test.true c.instr-item.is (sym f ∙ t) c.loop-instr.invariant.written c.in_ok-push_instr.ensures.written;
 }
+
+pub returns-then-not-branch : goal.returns-then-not-branch
+returns-then-not-branch c =
+    let t = c.if-not-branch.true in
+    let f = c.in_ok-push_instr.ensures.goes_on in
+    body-last (map seen_value c.args.values.now.keys) c.args.body.now c.loop-instr.instr-index c.instr-item.result _ c.loop-instr.code.items c.push_instr.new.code.items
+    c.loop-instr-test.true c.instr-item.is (sym f ∙ t) c.loop-instr.invariant.written c.in_ok-push_instr.ensures.written
