@@ -1,0 +1,39 @@
+//! What is wrong with labels.
+
+use std::alloc::AllocError;
+use thiserror::Error;
+
+/// Why a module does not keep the label rules: the first break of one in the order of its text, or a want of memory.
+/// Functions, and the instructions of one, are counted from 0; what is wrong with a function's beginning stands before
+/// its instructions, and in one instruction a missing label before its arguments.
+#[derive(Debug, Drop, Error)]
+pub enum LabelFault {
+    /// The label is defined a second time in the module.
+    #[error("label {label}: defined twice")]
+    Twice {
+        label: u32,
+    },
+    /// The instruction names a label that its function does not define, or, where it calls a function of the module or
+    /// makes a fun, one that is no function's entry.
+    #[error("function {func}, instruction {index}: label {label} missing")]
+    Missing {
+        func: usize,
+        index: usize,
+        label: u32,
+    },
+    /// The function does not begin with a label, at most one `line`, its `func_info` and its entry label.
+    #[error("function {func}: bad entry")]
+    BadEntry {
+        func: usize,
+    },
+    /// A call has another number of arguments than what it calls, or a fun more free variables than its function
+    /// takes arguments.
+    #[error("function {func}, instruction {index}: bad arity")]
+    BadArity {
+        func: usize,
+        index: usize,
+    },
+    /// Memory was wanting.
+    #[error("out of memory")]
+    NoMemory(#[from] AllocError),
+}
