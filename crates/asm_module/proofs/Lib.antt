@@ -1,0 +1,6 @@
+mod FunctionLemmas
+mod KeySets
+mod KeysRead
+mod ModuleLemmas
+mod OperandLemmas
+mod ReadingLemmas

@@ -1,0 +1,163 @@
+-- The operands of an instruction's form (OTP 24, the assembly that `erlc -S` writes), place by place.
+use Rattle.std.specs.Prelude.{ℕ, pos, Bool, true, false, nat_eq, ◌&&◌, ◌||◌, if◌then◌else◌, List, [], ◌∷◌, ◌++◌, codes, unwrap_or, Option, None, Some, option_map, option_and_then}
+use Rattle.std.specs.Option.{option_zip}
+use Rattle.ej_term.specs.declared.asm_term.AsmTerm.{AsmTerm}
+use Rattle.genop_table.specs.declared.instructions.Part.{Part}
+use Rattle.genop_table.specs.declared.instructions.Part.TheVariants as part
+use Rattle.beam_code.specs.declared.operand.Operand.{Operand}
+use Rattle.beam_code.specs.declared.operand.Operand.TheVariants as operand
+use Rattle.beam_code.specs.declared.operand.Reg.{Reg}
+use Rattle.beam_code.specs.declared.operand.Reg.TheVariants as register
+use Rattle.beam_code.specs.declared.operand.Src.{Src}
+use Rattle.beam_code.specs.declared.operand.Src.TheVariants as source
+use Rattle.beam_code.specs.declared.rows.TheConstants.{BIF, GC_BIF, TEST, RAISE, TEST_ARITY, IS_TAGGED_TUPLE}
+use Rattle.beam_code.specs.Fits.{most_of_all}
+use Rattle.asm_module.specs.Terms.{is_word, atom, integer, number, elements, tagged, pair, behind, each, Tagged}
+
+abbrev pub register_named : List ℕ × AsmTerm → Option Reg
+register_named p =
+    if is_word p.0 (codes "x") then option_map register.X (number 1023 p.1)
+    else if is_word p.0 (codes "y") then option_map register.Y (number 1023 p.1)
+    else None
+
+-- `{x,N}` or `{y,N}`
+abbrev pub register_of : AsmTerm → Option Reg
+register_of t = option_and_then register_named (pair t)
+
+-- `{f,L}`
+abbrev pub label_of : AsmTerm → Option ℕ
+label_of t = option_and_then (number most_of_all) (behind (codes "f") t)
+
+-- a count
+abbrev pub count_of : AsmTerm → Option ℕ
+count_of t = number most_of_all t
+
+abbrev pub nil_named : List ℕ → Option Src
+nil_named name = if is_word name (codes "nil") then Some source.Nil else None
+
+abbrev pub atom_value : AsmTerm → Option Src
+atom_value t = option_map source.Atom (atom t)
+
+abbrev pub value_named : List ℕ × AsmTerm → Option Src
+value_named p =
+    if is_word p.0 (codes "integer") then option_map source.Int (integer p.1)
+    else if is_word p.0 (codes "atom") then atom_value p.1
+    else if is_word p.0 (codes "literal") then Some (source.Literal p.1)
+    else option_map source.Reg (register_named p)
+
+-- `nil`
+abbrev pub nil_of : AsmTerm → Option Src
+nil_of t = option_and_then nil_named (atom t)
+
+abbrev pub source_paired : AsmTerm → Option (List ℕ × AsmTerm) → Option Src
+source_paired t None = nil_of t
+source_paired t (Some p) = value_named p
+
+-- `{x,N}`, `{y,N}`, `{integer,I}`, `{atom,A}`, `nil` or `{literal,T}`
+abbrev pub source_of : AsmTerm → Option Src
+source_of t = source_paired t (pair t)
+
+-- an integer that a count may be, as a source
+abbrev pub size_of : AsmTerm → Option Src
+size_of t = option_map (λ n. source.Int (pos n)) (count_of t)
+
+abbrev pub external_with : Option (List ℕ) → Option (List ℕ) → Option ℕ → Option Operand
+external_with (Some owner) (Some name) (Some arity) = Some (operand.Ext owner name arity)
+external_with _ _ _ = None
+
+abbrev pub external_named : AsmTerm → AsmTerm → AsmTerm → Option Operand
+external_named owner name arity = external_with (atom owner) (atom name) (number 255 arity)
+
+abbrev pub external_parts : List AsmTerm → Option Operand
+external_parts (owner ∷ name ∷ arity ∷ []) = external_named owner name arity
+external_parts _ = None
+
+abbrev pub external_tagged : Tagged → Option Operand
+external_tagged t = if is_word t.0 (codes "extfunc") then external_parts t.1 else None
+
+-- `{extfunc,M,F,A}`
+abbrev pub external_of : AsmTerm → Option Operand
+external_of t = option_and_then external_tagged (tagged t)
+
+-- the elements of `{list,L}`
+abbrev pub listed : AsmTerm → Option (List AsmTerm)
+listed t = option_and_then elements (behind (codes "list") t)
+
+-- a source, a count, and sources
+abbrev pub sized : List AsmTerm → Option (List Src)
+sized (first ∷ size ∷ rest) =
+    option_and_then (λ s. option_and_then (λ n. option_map (λ ss. s ∷ n ∷ ss) (each source_of rest)) (size_of size)) (source_of first)
+sized _ = None
+
+-- in the arguments of `test_arity` and `is_tagged_tuple` a count stands second
+abbrev pub takes_size : ℕ → ℕ → Bool
+takes_size row number = nat_eq row TEST && (nat_eq number TEST_ARITY || nat_eq number IS_TAGGED_TUPLE)
+
+abbrev pub arguments_of : ℕ → ℕ → List AsmTerm → Option (List Src)
+arguments_of row number terms = if takes_size row number then sized terms else each source_of terms
+
+-- the arguments of tests and builtins are a list, the other sources `{list,L}`
+abbrev pub sources_in : ℕ → AsmTerm → Option (List AsmTerm)
+sources_in row t = if nat_eq row BIF || nat_eq row GC_BIF || nat_eq row TEST || nat_eq row RAISE then elements t else listed t
+
+-- elements two by two
+abbrev pub two_by_two : {X : Type 0} → (AsmTerm → AsmTerm → Option X) → List AsmTerm → Option (List X)
+two_by_two read [] = Some []
+two_by_two read (a ∷ []) = None
+two_by_two read (a ∷ b ∷ rest) = option_and_then (λ x. option_map (λ xs. x ∷ xs) (two_by_two read rest)) (read a b)
+
+-- a value of `select_val`, a size of `select_tuple_arity`, with a label; a key with a value, or with a register
+unfoldable pub case_of : AsmTerm → AsmTerm → Option (Src × ℕ)
+case_of a b = option_zip (source_of a) (label_of b)
+
+unfoldable pub arity_of : AsmTerm → AsmTerm → Option (Src × ℕ)
+arity_of a b = option_zip (size_of a) (label_of b)
+
+unfoldable pub pair_of : AsmTerm → AsmTerm → Option (Src × Src)
+pair_of a b = option_zip (source_of a) (source_of b)
+
+unfoldable pub get_of : AsmTerm → AsmTerm → Option (Src × Reg)
+get_of a b = option_zip (source_of a) (register_of b)
+
+-- The operand at a place; the number is that of the test or builtin that the form names, where it names one.
+abbrev pub operand_of : ℕ → ℕ → Part → AsmTerm → Option Operand
+operand_of row number part.Src t = option_map operand.Src (source_of t)
+operand_of row number part.Reg t = option_map operand.Reg (register_of t)
+operand_of row number part.Label t = option_map operand.Label (label_of t)
+operand_of row number part.Count t = option_map operand.Count (count_of t)
+operand_of row number part.Name t = Some (operand.Name number)
+operand_of row number part.Ext t = external_of t
+operand_of row number part.Srcs t = option_map operand.Srcs (option_and_then (arguments_of row number) (sources_in row t))
+operand_of row number part.Cases t = option_map operand.Cases (option_and_then (two_by_two case_of) (listed t))
+operand_of row number part.Arities t = option_map operand.Cases (option_and_then (two_by_two arity_of) (listed t))
+operand_of row number part.Pairs t = option_map operand.Pairs (option_and_then (two_by_two pair_of) (listed t))
+operand_of row number part.Gets t = option_map operand.Gets (option_and_then (two_by_two get_of) (listed t))
+operand_of row number part.Regs t = option_map operand.Regs (option_and_then (each register_of) (listed t))
+operand_of row number _ t = None
+
+-- a count or `{alloc,_}`
+abbrev pub is_need_paired : Option ℕ → Option AsmTerm → Bool
+is_need_paired None None = false
+is_need_paired _ _ = true
+
+abbrev pub is_need : AsmTerm → Bool
+is_need t = is_need_paired (count_of t) (behind (codes "alloc") t)
+
+abbrev pub one : Operand → List Operand
+one o = o ∷ []
+
+abbrev pub one_or_none : Option Operand → List Operand
+one_or_none o = unwrap_or (option_map one o) []
+
+-- what a place keeps: nothing of what is needed of the heap and of what is not looked at, and else its operand
+unfoldable pub kept_of : ℕ → ℕ → Part → AsmTerm → Option (List Operand)
+kept_of row number part.Need t = if is_need t then Some [] else None
+kept_of row number part.Any t = Some []
+kept_of row number p t = option_map one (operand_of row number p t)
+
+-- the operands of the terms behind an instruction's name, by these parts of its row's shape
+abbrev pub operands_of : ℕ → ℕ → List Part → List AsmTerm → Option (List Operand)
+operands_of row number [] [] = Some []
+operands_of row number (p ∷ parts) (t ∷ terms) =
+    option_and_then (λ first. option_map (λ rest. first ++ rest) (operands_of row number parts terms)) (kept_of row number p t)
+operands_of row number _ _ = None
