@@ -9,3 +9,5 @@ pub mod Putting
 pub mod Merging
 pub mod Mapped
 pub mod Kept
+pub mod Loading
+pub mod Distinct

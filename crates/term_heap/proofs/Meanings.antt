@@ -68,8 +68,8 @@ meaning-more us bs ps qs xs ys (c.Tuple first count) t e =
     let m = mapped (λ ts. Tuple (terms ts)) (parts_of ps xs first count) t e in
     option_map-is (λ ts. Tuple (terms ts)) _ m.0 (parts_of-more ps qs xs ys first count m.0 m.1) ∙ ap Some m.2
 meaning-more us bs ps qs xs ys (c.Map first count) t e =
-    let m = mapped (map_of count) (parts_of ps xs first (2 * count)) t e in
-    option_map-is (map_of count) _ m.0 (parts_of-more ps qs xs ys first (2 * count) m.0 m.1) ∙ ap Some m.2
+    let m = chained (map_of count) (parts_of ps xs first (2 * count)) t e in
+    ap (option_and_then (map_of count)) (parts_of-more ps qs xs ys first (2 * count) m.0 m.1) ∙ m.2
 meaning-more us bs ps qs xs ys (c.Fun local owner name arity first count) t e =
     let m = three-parts (λ m f ts. Fun local m f arity (terms ts)) (slice_get us owner) (slice_get us name) (parts_of ps xs first count) t e in
     three-is (λ m f ts. Fun local m f arity (terms ts)) _ _ _ m.0 m.1 m.2 (slice-more us bs owner m.0 m.3) (slice-more us bs name m.1 m.4) (parts_of-more ps qs xs ys first count m.2 m.5)

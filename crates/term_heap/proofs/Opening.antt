@@ -4,13 +4,15 @@ use Rattle.std.specs.List.{All}
 use Rattle.std.specs.Ordering.{ordering_then, int_cmp, is_eq}
 use Rattle.std.specs.declared.cmp.Ordering.{Ordering}
 use Rattle.std.specs.declared.cmp.Ordering.TheVariants.{Less, Equal, Greater}
+use Rattle.std.proofs.lemmas.Option.{cond_some}
 use Rattle.std.proofs.lemmas.List.{take-append-drop}
 use Rattle.std.proofs.lemmas.List.Elements.{All-nil, All-cons}
 use Rattle.std.proofs.lemmas.Grind.{common_steps}
 use Rattle.ej_term.specs.Term.{Term, Int, Atom, Reference, Fun, Pid, Tuple, Map, Nil, Cons, terms}
 use Rattle.ej_term.specs.Order.{compare, compare_each, compare_names, compare_keys, compare_values, compare_functions, count, size}
 use Rattle.ej_term.specs.Order as order
-use Rattle.ej_term.proofs.Options.{unsome, mapped}
+use Rattle.ej_term.specs.Maps.{rises}
+use Rattle.ej_term.proofs.Options.{unsome, mapped, chained}
 use Rattle.ej_term.proofs.OrderCode.{then-assoc}
 use Rattle.ej_term.proofs.OrderLaws.{equal-naturals, second-tied}
 use Rattle.term_heap.specs.Cells.{pairs, parts_of, map_of, meaning}
@@ -82,13 +84,17 @@ kinds-decide (Map ps) (Map qs) h = absurd (true≢false h)
 kinds-decide (Cons x xs) (Cons y ys) h = absurd (true≢false h)
 kinds-decide s t h = refl
 
+-- the map that a run of keys and values is
+pub map-known : (n : ℕ) (xs : List Term) (s : Term) → map_of n xs ≡ Some s → Map (pairs (take n xs) (drop n xs)) ≡ s
+map-known n xs s e = (cond_some (rises (pairs (take n xs) (drop n xs))) (Map (pairs (take n xs) (drop n xs))) s e).1
+
 pub kind-of : (us : List (List ℕ)) (ps : List TermId) (ts : List Term) (a : Cell) (s : Term) → meaning us ps ts a ≡ Some s → order.kind s ≡ kind a
 kind-of us ps ts (c.Int n) s e = ap order.kind (sym (unsome _ _ e))
 kind-of us ps ts (c.Atom n) s e = let m = mapped Atom (slice_get us n) s e in ap order.kind (sym m.2)
 kind-of us ps ts c.Nil s e = ap order.kind (sym (unsome _ _ e))
 kind-of us ps ts (c.Cons h t) s e = let m = both-parts Cons (slice_get ts h.0) (slice_get ts t.0) s e in ap order.kind (sym m.4)
 kind-of us ps ts (c.Tuple x n) s e = let m = mapped (λ ts. Tuple (terms ts)) (parts_of ps ts x n) s e in ap order.kind (sym m.2)
-kind-of us ps ts (c.Map x n) s e = let m = mapped (map_of n) (parts_of ps ts x (2 * n)) s e in ap order.kind (sym m.2)
+kind-of us ps ts (c.Map x n) s e = let m = chained (map_of n) (parts_of ps ts x (2 * n)) s e in ap order.kind (sym (map-known n m.0 s m.2))
 kind-of us ps ts (c.Fun l m f a x n) s e = let p = three-parts (λ m f ts. Fun l m f a (terms ts)) (slice_get us m) (slice_get us f) (parts_of ps ts x n) s e in ap order.kind (sym p.6)
 kind-of us ps ts (c.Pid n k) s e = ap order.kind (sym (unsome _ _ e))
 kind-of us ps ts (c.Reference n k) s e = ap order.kind (sym (unsome _ _ e))
@@ -100,7 +106,7 @@ by-kind ps ts s t m n d e h = alone ps ts (nat_cmp m n) s t (kinds-decide s t (a
 pub opens-is : (ps : List TermId) (ts : List Term) (r : Ordering × List Work) (s t s' t' : Term) → s ≡ s' → t ≡ t' → Opens ps ts r s t → Opens ps ts r s' t'
 opens-is ps ts r s t s' t' d e h = subst (λ (y : Term). Opens ps ts r s' y) e (subst (λ (x : Term). Opens ps ts r x t) d h)
 
-map-weight : (n : ℕ) (xs : List Term) → length xs ≡ 2 * n → weight_each (terms xs) < weight (map_of n xs)
+map-weight : (n : ℕ) (xs : List Term) → length xs ≡ 2 * n → weight_each (terms xs) < weight (Map (pairs (take n xs) (drop n xs)))
 map-weight n xs e =
     let lt : length (take n xs) ≡ length (drop n xs) = grind (arith, common_steps, e) in
     let split : take n xs ++ drop n xs ≡ xs = take-append-drop n xs in
@@ -155,15 +161,15 @@ opened-right us ps ts (c.Tuple x n) (c.Tuple y m) s t ea eb =
     (ap₂ (λ u v. ordering_then (nat_cmp u v) (compare_each (terms p.0) (terms q.0))) (size-terms p.0 ∙ parts-length ps ts x n p.0 p.1) (size-terms q.0 ∙ parts-length ps ts y m q.0 q.1))
     (λ tie. refl) (omega arith))
 opened-right us ps ts (c.Map x n) (c.Map y m) s t ea eb =
-    let p = mapped (map_of n) (parts_of ps ts x (2 * n)) s ea in
-    let q = mapped (map_of m) (parts_of ps ts y (2 * m)) t eb in
+    let p = chained (map_of n) (parts_of ps ts x (2 * n)) s ea in
+    let q = chained (map_of m) (parts_of ps ts y (2 * m)) t eb in
     let lp = parts-length ps ts x (2 * n) p.0 p.1 in
     let lq = parts-length ps ts y (2 * m) q.0 q.1 in
     let keys = pairs (take n p.0) (drop n p.0) in
     let others = pairs (take m q.0) (drop m q.0) in
     let d = ordering_then (compare_keys keys others) (compare_values keys others) in
-    opens-is ps ts _ (map_of n p.0) (map_of m q.0) s t p.2 q.2
-    (in-runs ps ts (nat_cmp n m) d x y (2 * n) p.0 q.0 (map_of n p.0) (map_of m q.0) p.1
+    opens-is ps ts _ (Map keys) (Map others) s t (map-known n p.0 s p.2) (map-known m q.0 t q.2)
+    (in-runs ps ts (nat_cmp n m) d x y (2 * n) p.0 q.0 (Map keys) (Map others) p.1
     (λ tie. subst (λ j. parts_of ps ts y (2 * j) ≡ Some q.0) (sym (equal-naturals n m tie)) q.1)
     (ap₂ (λ u v. ordering_then (nat_cmp u v) d) (map-count n p.0 lp) (map-count m q.0 lq))
     (map-order n m p.0 q.0 lp lq)

@@ -3,6 +3,7 @@ use Rattle.std.specs.Prelude.{◌≡◌, ℕ, ◌+◌, ◌*◌, Bool, nat_le, if
 use Rattle.std.specs.Prelude as std
 use Rattle.ej_term.specs.Term.{Term, Int, Atom, Reference, Fun, Pid, Tuple, Map, Nil, Cons, Pairs, Empty, Pair, terms}
 use Rattle.ej_term.specs.AsmValue.{every}
+use Rattle.ej_term.specs.Maps.{rises}
 use Rattle.term_heap.specs.declared.cell.TermId.{TermId}
 use Rattle.term_heap.specs.declared.cell.Cell.{Cell}
 use Rattle.term_heap.specs.declared.cell.Cell.TheVariants as c
@@ -32,9 +33,13 @@ abbrev pub all_three : {X Y Z W : Type 0} → (X → Y → Z → W) → Option X
 all_three f (Some x) (Some y) (Some z) = Some (f x y z)
 all_three f _ _ _ = std.None
 
--- a map of its keys and then its values
-abbrev pub map_of : ℕ → List Term → Term
-map_of count ts = Map (pairs (take count ts) (drop count ts))
+-- the map of these pairs, where their keys rise
+abbrev pub rising : Pairs → Option Term
+rising ps = if rises ps then Some (Map ps) else std.None
+
+-- a map of its keys, which rise, and then its values
+abbrev pub map_of : ℕ → List Term → Option Term
+map_of count ts = rising (pairs (take count ts) (drop count ts))
 
 -- the term that a cell stands for, by the texts of the atoms, the parts, and the terms of the earlier cells; none
 -- where it names what isn't there
@@ -44,7 +49,7 @@ meaning atoms parts earlier (c.Atom text) = option_map Atom (slice_get atoms tex
 meaning atoms parts earlier c.Nil = Some Nil
 meaning atoms parts earlier (c.Cons head tail) = both Cons (slice_get earlier head.0) (slice_get earlier tail.0)
 meaning atoms parts earlier (c.Tuple first count) = option_map (λ ts. Tuple (terms ts)) (parts_of parts earlier first count)
-meaning atoms parts earlier (c.Map first count) = option_map (map_of count) (parts_of parts earlier first (2 * count))
+meaning atoms parts earlier (c.Map first count) = option_and_then (map_of count) (parts_of parts earlier first (2 * count))
 meaning atoms parts earlier (c.Fun local owner name arity first count) =
     all_three (λ m f ts. Fun local m f arity (terms ts)) (slice_get atoms owner) (slice_get atoms name) (parts_of parts earlier first count)
 meaning atoms parts earlier (c.Pid node number) = Some (Pid node number)

@@ -3,3 +3,4 @@ pub mod View
 pub mod Held
 pub mod Works
 pub mod Entries
+pub mod Loaded

@@ -20,7 +20,7 @@ pub struct Heap {
 }
 
 impl Heap {
-    ghost use Rattle.std.specs.Prelude.{◌<◌, ◌++◌, length, slice_get, Some, IsSome, IfOk};
+    ghost use Rattle.std.specs.Prelude.{◌<◌, ◌≤◌, ◌+◌, ◌++◌, length, take, drop, slice_get, Some, IsSome, IfOk};
     ghost use Rattle.std.specs.Str.{chars};
     ghost use Rattle.term_heap.specs.Cells.{parts_of, terms_of};
     ghost use Rattle.term_heap.specs.View.{terms_in, parts_in, texts_in, Holds, term_of, cell_term, Keeps};
@@ -51,6 +51,14 @@ impl Heap {
         ensures { slice_get (parts_in self.now) place ≡ Some result }
     {
         self.parts[place]
+    }
+
+    /// So many parts from a place on, which a cell of this heap names.
+    pub fn parts(&self, first: usize, count: usize) -> &[TermId]
+        requires { first + count ≤ length (parts_in self.now) }
+        ensures { result.now ≡ take count (drop first (parts_in self.now)) }
+    {
+        &self.parts[first..first + count]
     }
 
     /// The text of an atom at a place from 0, which a cell of this heap names.

@@ -7,6 +7,7 @@
 
 mod cell;
 mod heap;
+mod load;
 mod makers;
 mod order;
 mod sort;
@@ -15,4 +16,6 @@ mod work;
 
 pub use cell::{Cell, TermId};
 pub use heap::Heap;
+pub use load::LoadFault;
 pub use order::compare;
+pub use sort::rising;

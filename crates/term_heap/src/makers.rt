@@ -1,12 +1,13 @@
 //! Adding terms to a heap.
 
-ghost use Rattle.std.specs.Prelude.{◌≡◌, [], IfOk, IsTrue, IsFalse};
+ghost use Rattle.std.specs.Prelude.{◌≡◌, [], length, true, IfOk, IsTrue, IsFalse};
 ghost use Rattle.std.specs.Str.{chars};
 ghost use Rattle.ej_term.specs.Term as term;
 ghost use Rattle.term_heap.specs.View.{Holds, Stands, term_of, Keeps};
 ghost use Rattle.term_heap.specs.Held.{HoldsEach, terms_at};
 ghost use Rattle.term_heap.specs.Entries.{HoldsEntries, entries_at};
-ghost use Rattle.ej_term.specs.Maps.{put_each};
+ghost use Rattle.ej_term.specs.Maps.{put_each, rises};
+ghost use Rattle.term_heap.specs.Cells.{pairs};
 
 use crate::cell::{Cell, TermId};
 use crate::heap::Heap;
@@ -71,6 +72,21 @@ impl Heap {
         let parts = keys_and_values(self.alloc(), &entries)?;
         let first = self.push_parts(&parts)?;
         self.push(Cell::Map(first, entries.len()))
+    }
+
+    /// The map of these keys, which rise, and of a value for each, without a comparison.
+    pub fn rising_map(&mut self, keys: &[TermId], values: &[TermId]) -> Result<TermId, AllocError>
+        requires keys { HoldsEach self.old keys.now }
+        requires values { HoldsEach self.old values.now }
+        requires count { length keys.now ≡ length values.now }
+        requires rise { rises (pairs (terms_at self.old keys.now) (terms_at self.old values.now)) ≡ true }
+        ensures keeps { Keeps self.old self.new }
+        ensures term { IfOk result (λ id. Stands self.new id (term.Map (pairs (terms_at self.old keys.now) (terms_at self.old values.now)))) }
+    {
+        let mut parts = Vec::from_slice(self.alloc(), keys)?;
+        parts.extend_from_slice(values)?;
+        let first = self.push_parts(&parts)?;
+        self.push(Cell::Map(first, keys.len()))
     }
 
     /// The fun of this module, name and arity, with the values of its free variables; an external one has none.
