@@ -1,0 +1,9 @@
+pub mod Answers
+pub mod Parts
+pub mod Computing
+pub mod Choosing
+pub mod Fronts
+pub mod Found
+pub mod Readings
+pub mod MapParts
+pub mod Bags
