@@ -1,0 +1,7 @@
+pub mod WellFormed
+pub mod Readable
+pub mod Prints
+pub mod Laws
+pub mod Worked
+pub mod Printing
+pub mod Reads

@@ -1,0 +1,28 @@
+//! Worked terms, as facts about the definitions.
+
+ghost use Rattle.term_text.specs.Worked.{Deepest, TooDeep, LongList, LongestName, LongName, LargestNumber, LargeNumber, LocalFun};
+
+/// Does nothing: its contract is which of some terms are readable.
+pub fn worked_terms()
+    ensures deepest { Deepest }
+    ensures too_deep { TooDeep }
+    ensures long_list { LongList }
+    ensures longest_name { LongestName }
+    ensures long_name { LongName }
+    ensures largest_number { LargestNumber }
+    ensures large_number { LargeNumber }
+    ensures local_fun { LocalFun }
+{}
+
+#[cfg(test)]
+mod tests {
+    use super::*;
+    use std::test::Fail;
+
+    #[test]
+    fn there_is_nothing_to_do(_rt: HostRuntime) -> Result<(), Fail> {
+        worked_terms();
+        crate::prints_are_read();
+        Ok(())
+    }
+}
