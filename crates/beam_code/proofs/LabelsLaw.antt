@@ -1,4 +1,4 @@
--- The label rules of a module of label, line, func_info, move and return alone.
+-- The label rules of a module of label, line, comment, func_info, move and return alone.
 use Rattle.std.proofs.Common.{◌≡◌, ℕ, ◌+◌, Bool, true, false, not, nat_eq, ◌&&◌, ◌||◌, List, [], ◌∷◌, ◌++◌, map, append_assoc, append-nil, Option, None, Some, is_some, refl, sym, ap, ◌∙◌}
 use Rattle.std.specs.Prelude.{if◌then◌else◌}
 use Rattle.std.specs.Cmp.{nat_eq_equiv}
@@ -10,13 +10,13 @@ use Rattle.std.proofs.lemmas.List.Folds.{list_any-append}
 use Rattle.beam_code.specs.declared.instr.Instr.{Instr}
 use Rattle.beam_code.specs.declared.module.Function.{Function}
 use Rattle.beam_code.specs.declared.module.Module.{Module}
-use Rattle.beam_code.specs.Forms.{opcode}
+use Rattle.beam_code.specs.Opcode.{opcode}
 use Rattle.beam_code.specs.Parts.{Instruction, parts_of, FunctionParts, function_parts, module_parts}
 use Rattle.beam_code.specs.LabelRules as rules
 use Rattle.beam_code.specs.LabelRules.{opcodes, defined_label, no_label_twice, labels_of, meets_label_rules}
 use Rattle.beam_code.specs.Labels as labels
 use Rattle.beam_code.specs.Labels.{Break, BadEntry, Scope, is_in, twice, with_label, defined_by, defined_in, break_at, break_in_code, break_in, break_from, scope_of, arity_of, first_break, keeps_label_rules}
-use Rattle.beam_code.specs.Opcode.{Opcode, Label, Line, FuncInfo, Move, Return, Unknown, is_known}
+use Rattle.beam_code.specs.Opcode.{Opcode, Label, Line, Comment, FuncInfo, Move, Return, Unknown, is_known}
 use Rattle.beam_code.proofs.SameCode.{row_of, operands_of, IsCanonical, canonical}
 
 -- the instruction of an opcode
@@ -29,6 +29,7 @@ knows f = list_all is_known (opcodes f)
 defined-same : (o : Opcode) → defined_by (canon o) ≡ defined_label o
 defined-same (Label n) = refl
 defined-same Line = refl
+defined-same Comment = refl
 defined-same (FuncInfo owner name arity) = refl
 defined-same (Move from to) = refl
 defined-same Return = refl
@@ -37,6 +38,7 @@ defined-same Unknown = refl
 no-misuse : (scope : Scope) (func at : ℕ) (o : Opcode) → labels.misuse scope func at (canon o) ≡ None
 no-misuse scope func at (Label n) = refl
 no-misuse scope func at Line = refl
+no-misuse scope func at Comment = refl
 no-misuse scope func at (FuncInfo owner name arity) = refl
 no-misuse scope func at (Move from to) = refl
 no-misuse scope func at Return = refl
@@ -84,18 +86,21 @@ head-same owner f (o ∷ []) = by o
     by : (o : Opcode) → false ≡ rules.is_head owner f (o ∷ [])
     by (Label n) = refl
     by Line = refl
+    by Comment = refl
     by (FuncInfo m name arity) = refl
     by (Move from to) = refl
     by Return = refl
     by Unknown = refl
 head-same owner f (FuncInfo m name arity ∷ Label n ∷ os) = refl
 head-same owner f (FuncInfo m name arity ∷ Line ∷ os) = and_right (bytes_eq m owner && bytes_eq name f.name && nat_eq arity f.arity) false refl
+head-same owner f (FuncInfo m name arity ∷ Comment ∷ os) = and_right (bytes_eq m owner && bytes_eq name f.name && nat_eq arity f.arity) false refl
 head-same owner f (FuncInfo m name arity ∷ FuncInfo m' name' arity' ∷ os) = and_right (bytes_eq m owner && bytes_eq name f.name && nat_eq arity f.arity) false refl
 head-same owner f (FuncInfo m name arity ∷ Move from to ∷ os) = and_right (bytes_eq m owner && bytes_eq name f.name && nat_eq arity f.arity) false refl
 head-same owner f (FuncInfo m name arity ∷ Return ∷ os) = and_right (bytes_eq m owner && bytes_eq name f.name && nat_eq arity f.arity) false refl
 head-same owner f (FuncInfo m name arity ∷ Unknown ∷ os) = and_right (bytes_eq m owner && bytes_eq name f.name && nat_eq arity f.arity) false refl
 head-same owner f (Label n ∷ o ∷ os) = refl
 head-same owner f (Line ∷ o ∷ os) = refl
+head-same owner f (Comment ∷ o ∷ os) = refl
 head-same owner f (Move from to ∷ o ∷ os) = refl
 head-same owner f (Return ∷ o ∷ os) = refl
 head-same owner f (Unknown ∷ o ∷ os) = refl
@@ -104,12 +109,14 @@ beginning-same : (owner : List ℕ) (f : Function) (os : List Opcode) → labels
 beginning-same owner f [] = refl
 beginning-same owner f (Label n ∷ []) = refl
 beginning-same owner f (Label n ∷ Line ∷ os) = head-same owner f os
+beginning-same owner f (Label n ∷ Comment ∷ os) = head-same owner f (Comment ∷ os)
 beginning-same owner f (Label n ∷ Label m ∷ os) = head-same owner f (Label m ∷ os)
 beginning-same owner f (Label n ∷ FuncInfo m name arity ∷ os) = head-same owner f (FuncInfo m name arity ∷ os)
 beginning-same owner f (Label n ∷ Move from to ∷ os) = head-same owner f (Move from to ∷ os)
 beginning-same owner f (Label n ∷ Return ∷ os) = head-same owner f (Return ∷ os)
 beginning-same owner f (Label n ∷ Unknown ∷ os) = head-same owner f (Unknown ∷ os)
 beginning-same owner f (Line ∷ os) = refl
+beginning-same owner f (Comment ∷ os) = refl
 beginning-same owner f (FuncInfo m name arity ∷ os) = refl
 beginning-same owner f (Move from to ∷ os) = refl
 beginning-same owner f (Return ∷ os) = refl

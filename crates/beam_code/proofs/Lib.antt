@@ -2,3 +2,5 @@ mod FitsLemmas
 pub mod ForeignLemmas
 pub mod SameCode
 pub mod LabelsLaw
+pub mod PartsLaw
+pub mod AcceptedRules

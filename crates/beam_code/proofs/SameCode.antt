@@ -13,14 +13,15 @@ use Rattle.beam_code.specs.declared.operand.Reg.TheVariants as register
 use Rattle.beam_code.specs.declared.operand.Src.{Src}
 use Rattle.beam_code.specs.declared.operand.Src.TheVariants as source
 use Rattle.beam_code.specs.Fits.{fits}
-use Rattle.beam_code.specs.Forms.{opcode}
+use Rattle.beam_code.specs.Opcode.{opcode}
 use Rattle.beam_code.specs.Keys.{Key, are_distinct, are_exports}
-use Rattle.beam_code.specs.Opcode.{Integer, Atom, Nil, Source, X, Of, Opcode, Label, Line, FuncInfo, Move, Return, Unknown, label_of, func_info_of, source_of, move_to, move_of, without_operands, opcode_of, is_known}
+use Rattle.beam_code.specs.Opcode.{Integer, Atom, Nil, Source, X, Of, Opcode, Label, Line, Comment, FuncInfo, Move, Return, Unknown, label_of, func_info_of, source_of, move_to, move_of, without_operands, opcode_of, is_known}
 
 -- the row and the operands of an instruction that is known
 abbrev pub row_of : Opcode → ℕ
 row_of (Label n) = 1
 row_of Line = 2
+row_of Comment = 3
 row_of (FuncInfo owner name arity) = 4
 row_of (Move from to) = 5
 row_of Return = 22
@@ -72,58 +73,46 @@ line-canonical : (row : ℕ) (operands : List Operand) → row ≡ 2 → is_know
 line-canonical row [] e known = record { row_is = e; operands_are = refl }
 line-canonical row (o ∷ os) e known = absurd (cc)
 
+comment-canonical : (row : ℕ) (operands : List Operand) → row ≡ 3 → is_known (without_operands Comment operands) ≡ true → IsCanonical row operands (without_operands Comment operands)
+comment-canonical row [] e known = record { row_is = e; operands_are = refl }
+comment-canonical row (o ∷ os) e known = absurd (cc)
+
 return-canonical : (row : ℕ) (operands : List Operand) → row ≡ 22 → is_known (without_operands Return operands) ≡ true → IsCanonical row operands (without_operands Return operands)
 return-canonical row [] e known = record { row_is = e; operands_are = refl }
 return-canonical row (o ∷ os) e known = absurd (cc)
 
 -- by the tests of the row's number
-abbrev opcode_by : Bool → Bool → Bool → Bool → Bool → List Operand → Opcode
-opcode_by a b c d e operands =
+abbrev opcode_by : Bool → Bool → Bool → Bool → Bool → Bool → List Operand → Opcode
+opcode_by a b c d e f operands =
     if a then label_of operands
     else if b then without_operands Line operands
-    else if c then func_info_of operands
-    else if d then move_of operands
-    else if e then without_operands Return operands
+    else if c then without_operands Comment operands
+    else if d then func_info_of operands
+    else if e then move_of operands
+    else if f then without_operands Return operands
     else Unknown
 
-canonical-by : (row : ℕ) (operands : List Operand) (a b c d e : Bool) → nat_eq row 1 ≡ a → nat_eq row 2 ≡ b → nat_eq row 4 ≡ c → nat_eq row 5 ≡ d → nat_eq row 22 ≡ e
-    → is_known (opcode_by a b c d e operands) ≡ true → IsCanonical row operands (opcode_by a b c d e operands)
-canonical-by row operands true b c d e ea eb ec ed ee known = label-canonical row operands (same-number row 1 ea) known
-canonical-by row operands false true c d e ea eb ec ed ee known = line-canonical row operands (same-number row 2 eb) known
-canonical-by row operands false false true d e ea eb ec ed ee known = info-canonical row operands (same-number row 4 ec) known
-canonical-by row operands false false false true e ea eb ec ed ee known = move-canonical row operands (same-number row 5 ed) known
-canonical-by row operands false false false false true ea eb ec ed ee known = return-canonical row operands (same-number row 22 ee) known
-canonical-by row operands false false false false false ea eb ec ed ee known = absurd (cc)
+canonical-by : (row : ℕ) (operands : List Operand) (a b c d e f : Bool) → nat_eq row 1 ≡ a → nat_eq row 2 ≡ b → nat_eq row 3 ≡ c → nat_eq row 4 ≡ d → nat_eq row 5 ≡ e → nat_eq row 22 ≡ f
+    → is_known (opcode_by a b c d e f operands) ≡ true → IsCanonical row operands (opcode_by a b c d e f operands)
+canonical-by row operands true b c d e f ea eb ec ed ee ef known = label-canonical row operands (same-number row 1 ea) known
+canonical-by row operands false true c d e f ea eb ec ed ee ef known = line-canonical row operands (same-number row 2 eb) known
+canonical-by row operands false false true d e f ea eb ec ed ee ef known = comment-canonical row operands (same-number row 3 ec) known
+canonical-by row operands false false false true e f ea eb ec ed ee ef known = info-canonical row operands (same-number row 4 ed) known
+canonical-by row operands false false false false true f ea eb ec ed ee ef known = move-canonical row operands (same-number row 5 ee) known
+canonical-by row operands false false false false false true ea eb ec ed ee ef known = return-canonical row operands (same-number row 22 ef) known
+canonical-by row operands false false false false false false ea eb ec ed ee ef known = absurd (cc)
 
 pub canonical : (i : Instr) → is_known (opcode i) ≡ true → IsCanonical i.row i.operands (opcode i)
-canonical i known = canonical-by i.row i.operands (nat_eq i.row 1) (nat_eq i.row 2) (nat_eq i.row 4) (nat_eq i.row 5) (nat_eq i.row 22) refl refl refl refl refl known
+canonical i known =
+    canonical-by i.row i.operands (nat_eq i.row 1) (nat_eq i.row 2) (nat_eq i.row 3) (nat_eq i.row 4) (nat_eq i.row 5) (nat_eq i.row 22) refl refl refl refl refl refl known
 
 -- an instruction's proof that it fits its row is the only one
-same-fields : (row row' : ℕ) (os os' : List Operand) → row ≡ row' → os ≡ os' → (d : fits row os ≡ true) (d' : fits row' os' ≡ true)
+pub same-fields : (row row' : ℕ) (os os' : List Operand) → row ≡ row' → os ≡ os' → (d : fits row os ≡ true) (d' : fits row' os' ≡ true)
     → ◌≡◌ {A = Instr} (record { row = row; operands = os; fits_row = d }) (record { row = row'; operands = os'; fits_row = d' })
 same-fields row row' os os' e f d =
     subst (λ r. (d' : fits r os' ≡ true) → ◌≡◌ {A = Instr} (record { row = row; operands = os; fits_row = d }) (record { row = r; operands = os'; fits_row = d' })) e
     (subst (λ o. (d' : fits row o ≡ true) → ◌≡◌ {A = Instr} (record { row = row; operands = os; fits_row = d }) (record { row = row; operands = o; fits_row = d' })) f
     (λ d'. ap (λ (x : fits row os ≡ true). let i : Instr = record { row = row; operands = os; fits_row = x } in i) (Bool-set _ _ d d')))
-
-same-instr : (i j : Instr) → is_known (opcode i) ≡ true → opcode i ≡ opcode j → i ≡ j
-same-instr i j known e =
-    let a = canonical i known in
-    let b = canonical j (subst (λ o. is_known o ≡ true) e known) in
-    same-fields i.row j.row i.operands j.operands (a.row_is ∙ ap row_of e ∙ sym b.row_is) (a.operands_are ∙ ap operands_of e ∙ sym b.operands_are) i.fits_row j.fits_row
-
--- code is told by what its instructions stand for, where each is one that is read so far
-pub same-code : (xs ys : List Instr) → list_all is_known (map opcode xs) ≡ true → map opcode xs ≡ map opcode ys → xs ≡ ys
-same-code [] [] known e = refl
-same-code [] (y ∷ ys) known e = absurd (cc)
-same-code (x ∷ xs) [] known e = absurd (cc)
-same-code (x ∷ xs) (y ∷ ys) known e =
-    let first : opcode x ≡ opcode y = cc in
-    let rest : map opcode xs ≡ map opcode ys = cc in
-    let both = both-true (is_known (opcode x)) (list_all is_known (map opcode xs)) known in
-    let here = same-instr x y both.0 first in
-    let others = same-code xs ys both.1 rest in
-    λ i. here i ∷ others i
 
 -- modules are told by their names, exports and functions
 pub same-module : (m n : Module) → m.name ≡ n.name → m.exports ≡ n.exports → m.functions ≡ n.functions → m ≡ n

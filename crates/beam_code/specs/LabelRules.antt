@@ -1,11 +1,12 @@
--- The label rules: how a function begins, and that no label is defined twice in a module.
+-- The label rules where no instruction names a label: how a function begins, and that no label is defined twice in a
+-- module.
 use Rattle.std.specs.Prelude.{ℕ, Bool, true, false, not, nat_eq, ◌&&◌, List, [], ◌∷◌, map}
 use Rattle.std.specs.List.{list_any, list_all, filter_map, flat_map}
 use Rattle.std.specs.Str.{bytes_eq}
 use Rattle.std.specs.Prelude.{Option, None, Some}
 use Rattle.beam_code.specs.declared.module.Function.{Function}
 use Rattle.beam_code.specs.declared.module.Module.{Module}
-use Rattle.beam_code.specs.Forms.{opcode}
+use Rattle.beam_code.specs.Opcode.{opcode}
 use Rattle.beam_code.specs.Opcode.{Opcode, Label, Line, FuncInfo}
 
 -- `func_info` with the module's name and the function's own name and arity, then the entry label

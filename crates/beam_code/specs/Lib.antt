@@ -3,7 +3,6 @@ pub mod Fits
 pub mod Opcode
 pub mod Keys
 pub mod Parts
-pub mod Forms
 pub mod LabelRules
 pub mod Labels
 pub mod Slots

@@ -1,11 +1,12 @@
 -- The instruction that a row of the instruction table and its operands stand for (OTP 24, `genop.tab`).
 use Rattle.std.specs.Prelude.{ℕ, ℤ, Bool, true, false, nat_eq, if◌then◌else◌, List, [], ◌∷◌, Option, None, Some}
+use Rattle.beam_code.specs.declared.instr.Instr.{Instr}
 use Rattle.beam_code.specs.declared.operand.Operand.{Operand}
 use Rattle.beam_code.specs.declared.operand.Operand.TheVariants as operand
 use Rattle.beam_code.specs.declared.operand.Reg.TheVariants as register
 use Rattle.beam_code.specs.declared.operand.Src.{Src}
 use Rattle.beam_code.specs.declared.operand.Src.TheVariants as source
-use Rattle.beam_code.specs.declared.rows.TheConstants.{LABEL, LINE, FUNC_INFO, MOVE, RETURN}
+use Rattle.beam_code.specs.declared.rows.TheConstants.{LABEL, LINE, COMMENT, FUNC_INFO, MOVE, RETURN}
 
 -- a value that an instruction has in it
 pub data Value : Type 0 where
@@ -27,6 +28,8 @@ pub data Opcode : Type 0 where
   Label : (label : ℕ) → Opcode
   -- `{line,_}`
   Line : Opcode
+  -- `{'%',_}`
+  Comment : Opcode
   -- `{func_info,{atom,M},{atom,F},n}`
   FuncInfo : (owner name : List ℕ) (arity : ℕ) → Opcode
   -- `{move,S,{x,N}}`
@@ -61,18 +64,23 @@ move_of (operand.Src from ∷ operand.Reg (register.X to) ∷ []) = move_to (sou
 move_of _ = Unknown
 
 abbrev pub without_operands : Opcode → List Operand → Opcode
-without_operands opcode [] = opcode
-without_operands opcode _ = Unknown
+without_operands o [] = o
+without_operands o _ = Unknown
 
 -- by the row's number
 abbrev pub opcode_of : ℕ → List Operand → Opcode
 opcode_of row operands =
     if nat_eq row LABEL then label_of operands
     else if nat_eq row LINE then without_operands Line operands
+    else if nat_eq row COMMENT then without_operands Comment operands
     else if nat_eq row FUNC_INFO then func_info_of operands
     else if nat_eq row MOVE then move_of operands
     else if nat_eq row RETURN then without_operands Return operands
     else Unknown
+
+-- the instruction that an instruction's row and operands stand for
+abbrev pub opcode : Instr → Opcode
+opcode i = opcode_of i.row i.operands
 
 abbrev pub is_known : Opcode → Bool
 is_known Unknown = false

@@ -4,7 +4,7 @@ use Rattle.std.specs.List.{list_any, list_all}
 use Rattle.std.specs.Option.{option_map}
 use Rattle.beam_code.specs.declared.module.Function.{Function}
 use Rattle.beam_code.specs.LabelRules.{opcodes}
-use Rattle.beam_code.specs.Opcode.{Source, X, Of, Opcode, Label, Line, FuncInfo, Move, Return, Unknown}
+use Rattle.beam_code.specs.Opcode.{Source, X, Of, Opcode, Label, Line, Comment, FuncInfo, Move, Return, Unknown}
 
 -- what a slot holds: nothing that is known, a term, a term or null, the tag of a `try` or `catch` with the
 -- labels of its handlers, a trace, or the marker of a receive
@@ -96,6 +96,7 @@ with_x to kind s = record { frame = s.frame; xs = λ n. if nat_eq n to then kind
 abbrev pub Holds : Assignment → State → Opcode → Type 0
 Holds at s (Label n) = GoesTo at s n
 Holds at s Line = Unit {0}
+Holds at s Comment = Unit {0}
 Holds at s (FuncInfo owner name arity) = MayRaise at s
 Holds at s (Move from to) = IsMoved (kind_of s from)
 Holds at s Return = (s.frame ≡ None) × (s.xs 0 ≡ Term)

@@ -14,7 +14,7 @@ use Rattle.beam_code.specs.declared.module.Function.{Function}
 use Rattle.beam_code.specs.declared.module.Module.{Module}
 use Rattle.beam_code.specs.Keys.{is_among, key_of, same_key}
 use Rattle.beam_code.specs.LabelRules.{opcodes}
-use Rattle.beam_code.specs.Opcode.{Value, Integer, Source, X, Of, Opcode, Label, Line, FuncInfo, Move, Return, Unknown}
+use Rattle.beam_code.specs.Opcode.{Value, Integer, Source, X, Of, Opcode, Label, Line, Comment, FuncInfo, Move, Return, Unknown}
 use Rattle.beam_code.specs.Opcode as code
 
 -- the instructions of a module, one function after the other
@@ -94,6 +94,7 @@ write m to (Some value) = Goes (record (next_place m) { xs = λ n. if nat_eq n t
 abbrev pub act : Option Opcode → Machine → Next
 act (Some (Label n)) m = Goes (next_place m)
 act (Some Line) m = Goes (next_place m)
+act (Some Comment) m = Goes (next_place m)
 act (Some (FuncInfo owner name arity)) m = Raises Error (Atom (codes "function_clause"))
 act (Some (Move from to)) m = write m to (read m from)
 act (Some Return) m = answer m.callers (m.xs 0)

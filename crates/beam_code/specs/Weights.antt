@@ -7,11 +7,12 @@ use Rattle.std.specs.Str.{bytes_eq}
 use Rattle.beam_code.specs.declared.module.Function.{Function}
 use Rattle.beam_code.specs.declared.module.Module.{Module}
 use Rattle.beam_code.specs.LabelRules.{opcodes}
-use Rattle.beam_code.specs.Opcode.{Value, Integer, Atom, Nil, Of, Opcode, Label, Line, FuncInfo, Move, Return, Unknown}
+use Rattle.beam_code.specs.Opcode.{Value, Integer, Atom, Nil, Of, Opcode, Label, Line, Comment, FuncInfo, Move, Return, Unknown}
 
 abbrev pub instruction_weight : Opcode → ℕ
 instruction_weight (Label n) = 0
 instruction_weight Line = 0
+instruction_weight Comment = 0
 instruction_weight (FuncInfo owner name arity) = 32
 instruction_weight (Move from to) = 10
 instruction_weight Return = 16

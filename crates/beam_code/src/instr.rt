@@ -20,7 +20,7 @@ pub struct Instr {
 impl Instr {
     ghost use Rattle.std.specs.Prelude.{◌≡◌, IfOk, IsSome, Some, List, Option, option_map, true};
     ghost use Rattle.beam_code.specs.Opcode.{Source, Label, Line, FuncInfo, Move, Return, source_of};
-    ghost use Rattle.beam_code.specs.Forms.{opcode};
+    ghost use Rattle.beam_code.specs.Opcode.{opcode};
     ghost use Rattle.beam_code.specs.Parts.{parts_of, fitting};
     ghost use Rattle.beam_code.specs.Fits.{is_source, is_register};
     ghost use Rattle.beam_code.specs.declared.operand.Reg.TheVariants.{X};

@@ -2,8 +2,8 @@
 //!
 //! The types keep what every layer above relies on: an instruction's operands fit its row, a module's
 //! functions are distinct and its exports are functions of its own. The definitions beside them, in
-//! `specs/`, say which text a module has, which label rules it meets, which slots hold a value at each
-//! place, and what it weighs.
+//! `specs/`, say which label rules a module meets, which slots hold a value at each place, what it weighs,
+//! and what its code does.
 #![tactic(auto)]
 
 mod fits;

@@ -5,6 +5,8 @@
 pub const LABEL: u16 = 1;
 /// `{line,_}`
 pub const LINE: u16 = 2;
+/// `{'%',_}`
+pub const COMMENT: u16 = 3;
 /// `{func_info,{atom,M},{atom,F},n}`
 pub const FUNC_INFO: u16 = 4;
 /// `{move,S,D}`

@@ -1,18 +1,25 @@
 -- A module is accepted where each check passes.
-use Rattle.std.proofs.Common.{◌≡◌, ◌↔◌, IsTrue, Bool, true, false, List, [], ◌∷◌, Result, Ok, Err, IfOk, refl, sym, ◌∙◌}
-use Rattle.std.specs.List.{list_all, filter_map, AllByRecursion}
+use Rattle.std.proofs.Common.{◌≡◌, ◌↔◌, IsTrue, ℕ, Bool, true, false, not, ◌&&◌, List, [], ◌∷◌, length, None, Result, Ok, Err, IfOk, refl, sym, ap, ◌∙◌}
+use Rattle.std.specs.Prelude.{nat_lt, is_some}
+use Rattle.std.specs.List.{list_all, filter_map, flat_map, AllByRecursion}
 use Rattle.std.proofs.lemmas.Bool.{and_parts, true≢false}
 use Rattle.beam_code.specs.declared.module.Function.{Function}
 use Rattle.beam_code.specs.declared.module.Module.{Module}
 use Rattle.beam_code.specs.LabelRules.{opcodes, defined_label, no_label_twice, begins_well, labels_of, meets_label_rules}
 use Rattle.beam_code.specs.Slots.{WellSlotted}
-use Rattle.beam_code.specs.Accepted.{is_thin_module, Accepted}
+use Rattle.beam_code.specs.Labels.{first_break}
+use Rattle.beam_code.specs.Parts.{module_parts}
+use Rattle.beam_code.specs.Accepted.{is_atom_name, is_thin_function, is_thin_module, Accepted}
+use Rattle.beam_code.proofs.AcceptedRules.{module_known}
+use Rattle.beam_code.proofs.LabelsLaw.{same_label_rules}
 use Rattle.beam_code.specs.Weights.{fits}
-use Rattle.erjang_top.specs.LabelChecks.{labels_in}
 use Rattle.erjang_top.specs.SlotCheck.{passes, labels_differ}
 use Rattle.erjang_top.proofs.NoTwice.{label-front, label-back}
 use Rattle.erjang_top.proofs.SlotsPass.{good-passes}
 use Rattle.erjang_top.proofs.SlotsGood.{passes-good}
+
+abbrev labels_in : List Function → List ℕ
+labels_in fs = flat_map (λ f. filter_map defined_label (opcodes f)) fs
 
 each-differs : (fs : List Function) → no_label_twice (labels_in fs) ≡ true → list_all labels_differ fs ≡ true
 each-differs [] e = refl
@@ -40,14 +47,21 @@ refused m b passes fails = (λ e. absurd (true≢false (sym e)), λ a. sym fails
 pub slots-pass : (m : Module) → Accepted m → list_all passes m.functions ≡ true
 slots-pass m a = all-pass m.functions a.slots
 
+-- each function of a module of plain names and numbers in range is such a function
+pub functions-plain : (m : Module) → is_thin_module m ≡ true → list_all is_thin_function m.functions ≡ true
+functions-plain m e = (and_parts (is_atom_name m.name && nat_lt 0 (length m.name)) (list_all is_thin_function m.functions) e).1
+
+rules-kept : (m : Module) → is_thin_module m ≡ true → first_break (module_parts m) ≡ None → meets_label_rules m ≡ true
+rules-kept m plain rules = sym (same_label_rules m (module_known m plain)) ∙ ap (λ b. not (is_some b)) rules
+
 -- all but the weights are as they should be
-pub decided : (m : Module) (b : Bool) → is_thin_module m ≡ true → meets_label_rules m ≡ true → list_all passes m.functions ≡ true → b ≡ fits m → IsTrue b ↔ Accepted m
+pub decided : (m : Module) (b : Bool) → is_thin_module m ≡ true → first_break (module_parts m) ≡ None → list_all passes m.functions ≡ true → b ≡ fits m → IsTrue b ↔ Accepted m
 decided m b plain rules slots e = (λ h. record { plain = plain; label_rules = rules; slots = well; sizes = sym e ∙ h }, λ a. e ∙ a.sizes)
   where
     well : AllByRecursion WellSlotted m.functions
-    well = all-good m.functions (each-differs m.functions (and_parts (list_all (begins_well m.name) m.functions) (no_label_twice (labels_of m)) rules).1) slots
+    well = all-good m.functions (each-differs m.functions (and_parts (list_all (begins_well m.name) m.functions) (no_label_twice (labels_of m)) (rules-kept m plain rules)).1) slots
 
-pub all-decided : {E : Type 0} (m : Module) (result : Result Bool E) → is_thin_module m ≡ true → meets_label_rules m ≡ true → list_all passes m.functions ≡ true
+pub all-decided : {E : Type 0} (m : Module) (result : Result Bool E) → is_thin_module m ≡ true → first_break (module_parts m) ≡ None → list_all passes m.functions ≡ true
     → IfOk result (λ yes. yes ≡ fits m) → IfOk result (λ yes. IsTrue yes ↔ Accepted m)
 all-decided m (Ok b) plain rules slots e = decided m b plain rules slots e
 all-decided m (Err error) plain rules slots e = tt

@@ -4,10 +4,10 @@ use Rattle.ej_outside.specs.Counts.{Same, Rises}
 use Rattle.ej_outside.specs.Shelf.{Files, ShelfState}
 use Rattle.ej_outside.specs.Sink.{SinkState}
 use Rattle.beam_code.specs.declared.module.Module.{Module}
-use Rattle.erjang_top.specs.declared.compile.Fault.{Fault}
-use Rattle.erjang_top.specs.declared.compile.Fault.TheVariants as fault
+use Rattle.erjang_top.specs.declared.fault.Fault.{Fault}
+use Rattle.erjang_top.specs.declared.fault.Fault.TheVariants as fault
 use Rattle.erjang_top.specs.Answers.{Refusal, First, Refused, Unchanged, Compiled, PutFailed, Told, SameCounts, TookAll, TookFront, Quiet, status_of, message, cause_text, longest_file, Answers}
-use Rattle.erjang_top.specs.Thin.{Thin}
+use Rattle.erjang_top.specs.Sources.{IsSource}
 use Rattle.erjang_top.specs.Words.{Compile}
 use Rattle.erjang_top.proofs.OneFirst.{one_first}
 use Rattle.erjang_top.specs.Work.{Works, Reports, refusal_of}
@@ -26,7 +26,7 @@ refused_status w held told cause first status s e only is =
 
 -- the source of a class was accepted
 done_accepted : (w : Compile) (held new : Files) → Compiled w held new → First held w None
-done_accepted w held new c = subst (λ (o : Option (List ℕ)). IsSomeAnd o (λ bytes. (length bytes ≤ longest_file) × (m : Module) × Thin bytes m)) (sym c.source) (c.short, c.module', c.thin)
+done_accepted w held new c = subst (λ (o : Option (List ℕ)). IsSomeAnd o (λ bytes. (length bytes ≤ longest_file) × (m : Module) × IsSource bytes m)) (sym c.source) (c.short, c.module', c.is_source)
 
 done_status : (w : Compile) (held : Files) (old new : Option Files) (first : Option Refusal) (status : ℕ) → status ≡ 0
     → old ≡ Some held → Told old new (Compiled w) → First held w first → status ≡ status_of first

@@ -11,7 +11,7 @@ use Rattle.std.proofs.lemmas.Bool.Decides.{nat_tests}
 use Rattle.beam_code.specs.declared.module.Function.{Function}
 use Rattle.beam_code.specs.Keys.{Key, same_key, key_of}
 use Rattle.beam_code.specs.LabelRules.{is_head, is_beginning, opcodes, begins_well, defined_label, no_label_twice}
-use Rattle.beam_code.specs.Opcode.{Opcode, Label, Line, FuncInfo, Move, Return, Unknown}
+use Rattle.beam_code.specs.Opcode.{Opcode, Label, Line, Comment, FuncInfo, Move, Return, Unknown}
 use Rattle.beam_code.specs.Turn.{is_label, place_of, entry_of}
 use Rattle.erjang_top.specs.ModuleClass.{is_entry, behind, body}
 use Rattle.erjang_top.proofs.Found.{Found, test-of-found}
@@ -28,6 +28,7 @@ same-test n (Label k) = swap n k
     swap : (a b : ℕ) → nat_eq b a ≡ nat_eq a b
     swap a b = grind (arith, nat_tests)
 same-test n Line = refl
+same-test n Comment = refl
 same-test n (FuncInfo owner name arity) = refl
 same-test n (Move from to) = refl
 same-test n Return = refl
@@ -36,6 +37,7 @@ same-test n Unknown = refl
 is-its-label : (n : ℕ) (i : Opcode) → is_label n i ≡ true → i ≡ Label n
 is-its-label n (Label k) e = ap (λ l. Label l) (sym (eqb-true n k e))
 is-its-label n Line e = absurd cc
+is-its-label n Comment e = absurd cc
 is-its-label n (FuncInfo owner name arity) e = absurd cc
 is-its-label n (Move from to) e = absurd cc
 is-its-label n Return e = absurd cc
@@ -69,6 +71,7 @@ defines : (n : ℕ) (code : List Opcode) → list_any (nat_eq n) (filter_map def
 defines n [] = refl
 defines n (Label k ∷ code) = ap (λ b. nat_eq n k || b) (defines n code)
 defines n (Line ∷ code) = defines n code
+defines n (Comment ∷ code) = defines n code
 defines n (FuncInfo owner name arity ∷ code) = defines n code
 defines n (Move from to ∷ code) = defines n code
 defines n (Return ∷ code) = defines n code
@@ -109,6 +112,7 @@ head-has owner f (i ∷ []) is = at i is
     at : (j : Opcode) → is_head owner f (j ∷ []) ≡ true → list_any (is_label f.entry) (j ∷ []) ≡ true
     at (Label n) h = absurd cc
     at Line h = absurd cc
+    at Comment h = absurd cc
     at (FuncInfo m name arity) h = absurd cc
     at (Move from to) h = absurd cc
     at Return h = absurd cc

@@ -10,6 +10,7 @@ use Rattle.ej_term.specs.Term.{Term}
 use Rattle.ej_world.specs.World.{Raise}
 use Rattle.beam_code.specs.declared.module.Module.{Module}
 use Rattle.beam_code.specs.Keys.{Key, key_of, is_among}
+use Rattle.beam_code.proofs.AcceptedRules.{accepted_rules}
 use Rattle.beam_code.specs.LabelRules.{begins_well, no_label_twice, labels_of}
 use Rattle.beam_code.specs.Opcode.{Opcode, Label}
 use Rattle.beam_code.specs.Slots.{WellSlotted}
@@ -43,7 +44,7 @@ pub beam-runs : (m : Module) → Accepted m → (me n : ℕ) (owner name : List 
     → Does (turn (m ∷ []) me n (Begun (how_of owner name args))) (events_of me (ending (given args) (body f.function))) (reason_of (ending (given args) (body f.function)))
 beam-runs m a me n owner name args here public' f =
     let key : Key = (name, length args) in
-    let labels = and_parts (list_all (begins_well m.name) m.functions) (no_label_twice (labels_of m)) a.label_rules in
+    let labels = and_parts (list_all (begins_well m.name) m.functions) (no_label_twice (labels_of m)) (accepted_rules m a) in
     let e = entry-here m.name key m.functions f labels.0 labels.1 in
     let count : length args ≡ f.function.arity = ap (λ (k : Key). k.1) (same-keys key (key_of f.function) f.here) in
     let mach : Machine = machine_at m args e.place in

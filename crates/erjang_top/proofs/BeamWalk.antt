@@ -3,7 +3,7 @@ use Rattle.std.proofs.Common.{◌≡◌, ℕ, zero, suc, ◌≤◌, Bool, true, 
 use Rattle.std.specs.Prelude.{if◌then◌else◌}
 use Rattle.std.proofs.lemmas.Bool.{and_parts}
 use Rattle.ej_term.specs.Term.{Term}
-use Rattle.beam_code.specs.Opcode.{Source, X, Of, Opcode, Label, Line, FuncInfo, Move, Return, Unknown}
+use Rattle.beam_code.specs.Opcode.{Source, X, Of, Opcode, Label, Line, Comment, FuncInfo, Move, Return, Unknown}
 use Rattle.beam_code.specs.Turn.{instructions, Machine, next_place, act, answer, write, read, go, walk}
 use Rattle.erjang_top.specs.Flow.{Holding, with_register, is_held, flows}
 use Rattle.erjang_top.proofs.Ending.{Registers, with_term, source_term, ending, events_of, reason_of, Does, does-same}
@@ -43,6 +43,9 @@ walks (suc k) me left m (Label n ∷ code) rest holding registers enough flow s 
     does-same (steps-on k me left m _ _ s.stands)
     (walks k me left (next_place m) code rest holding registers (omega (arith, enough)) flow (record { stands = rest-of-drop _ m.place _ _ s.stands; holds = s.holds; alone = s.alone }))
 walks (suc k) me left m (Line ∷ code) rest holding registers enough flow s =
+    does-same (steps-on k me left m _ _ s.stands)
+    (walks k me left (next_place m) code rest holding registers (omega (arith, enough)) flow (record { stands = rest-of-drop _ m.place _ _ s.stands; holds = s.holds; alone = s.alone }))
+walks (suc k) me left m (Comment ∷ code) rest holding registers enough flow s =
     does-same (steps-on k me left m _ _ s.stands)
     (walks k me left (next_place m) code rest holding registers (omega (arith, enough)) flow (record { stands = rest-of-drop _ m.place _ _ s.stands; holds = s.holds; alone = s.alone }))
 walks (suc k) me left m (FuncInfo owner name arity ∷ code) rest holding registers enough flow s =

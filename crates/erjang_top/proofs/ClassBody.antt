@@ -4,13 +4,14 @@ use Rattle.std.specs.Prelude.{slice_get, slice_set, if◌then◌else◌, pos}
 use Rattle.std.specs.List.{list_any, list_all, AllByRecursion}
 use Rattle.std.proofs.lemmas.Bool.{and_parts, eqb-true, eqb-false}
 use Rattle.ej_term.specs.declared.class.Class3.TheVariants.{Error}
-use Rattle.ej_term.specs.Atoms.{is_plain}
+use Rattle.std.specs.Str.{all_scalars}
+use Rattle.ej_term.specs.TermPrint.{print_atom}
 use Rattle.ej_term.specs.Term.{Term}
 use Rattle.ej_term.specs.Term as term
 use Rattle.ej_world.specs.World.{Raise}
-use Rattle.beam_code.specs.Opcode.{Source, X, Of, Integer, Atom, Nil, Opcode, Label, Line, FuncInfo, Move, Return, Unknown}
+use Rattle.beam_code.specs.Opcode.{Source, X, Of, Integer, Atom, Nil, Opcode, Label, Line, Comment, FuncInfo, Move, Return, Unknown}
 use Rattle.beam_code.specs.Opcode as code
-use Rattle.beam_code.specs.Accepted.{is_thin_name, is_thin_source, is_register, is_thin_opcode}
+use Rattle.beam_code.specs.Accepted.{is_atom_name, is_thin_source, is_register, is_thin_opcode}
 use Rattle.beam_code.specs.Weights.{same_value}
 use Rattle.erjang_top.specs.ClassFile.{Op, Method, Class}
 use Rattle.erjang_top.specs.ClassTurn.{Value, OfTerm, Proc, Held, literal, term_printed, Ran, Status}
@@ -18,6 +19,7 @@ use Rattle.erjang_top.specs.Flow.{Holding, with_register, is_held, flows}
 use Rattle.erjang_top.specs.ModuleClass.{astore, local_of, index_of, push_source, return_ops, raise_ops, body_ops, registers}
 use Rattle.erjang_top.proofs.ClassCode.{Stands, fuel}
 use Rattle.erjang_top.proofs.ClassCode as run
+use Rattle.erjang_top.proofs.AtomRead.{atom-printed}
 use Rattle.erjang_top.proofs.ClassPool.{HasRuntime}
 use Rattle.erjang_top.proofs.Ending.{Registers, with_term, source_term, Ending, Returned, Refused, ending, clause_atom}
 use Rattle.erjang_top.proofs.Places.{get-written, get-other}
@@ -53,8 +55,8 @@ status_at Refused = 4
 abbrev pub finished : ℕ → Held → Ending → ℕ → Ran
 finished me held end left = Status (pos (status_at end)) (held_at me held end) left
 
-plain-printed : (name : List ℕ) → is_thin_name name ≡ true → term_printed name ≡ Some (term.Atom name)
-plain-printed name thin = rw (and_parts (is_plain name) (nat_le (length name) 255) thin).0 refl
+name-printed : (name : List ℕ) → is_atom_name name ≡ true → term_printed (print_atom name) ≡ Some (term.Atom name)
+name-printed name thin = atom-printed name (and_parts (all_scalars name) (nat_le (length name) 255) thin).0
 
 module _ (c : Class) (method : Method) (me : ℕ) (values : List code.Value) (runtime : HasRuntime c.pool)
     (entries : (value : code.Value) → list_any (same_value value) values ≡ true → HasValue c.pool (index_of values value) value) where
@@ -95,7 +97,7 @@ module _ (c : Class) (method : Method) (me : ℕ) (values : List code.Value) (ru
       (run.calls c method me (Some (OfTerm (term.Int number))) s.1.0 runtime.integer refl refl refl (further _ s.1.1))
   pushes (Of (Atom name)) ops left at locals held ran holding regs is thin to among k s further =
       run.pushes-text c method me s.0 (entries (Atom name) among)
-      (run.calls c method me (Some (OfTerm (term.Atom name))) s.1.0 runtime.lit refl refl (ap (literal held) (plain-printed name thin)) (further _ s.1.1))
+      (run.calls c method me (Some (OfTerm (term.Atom name))) s.1.0 runtime.lit refl refl (ap (literal held) (name-printed name thin)) (further _ s.1.1))
   pushes (Of Nil) ops left at locals held ran holding regs is thin to among k s further =
       run.pushes-text c method me s.0 (entries Nil among)
       (run.calls c method me (Some (OfTerm term.Nil)) s.1.0 runtime.lit refl refl refl (further _ s.1.1))
@@ -108,6 +110,7 @@ module _ (c : Class) (method : Method) (me : ℕ) (values : List code.Value) (ru
   runs-body (Label n ∷ code) left at locals held holding regs flow among thin room k s =
       runs-body code left at locals held holding regs flow among.1 (and_parts (is_thin_opcode (Label n)) (list_all is_thin_opcode code) thin).1 room k s
   runs-body (Line ∷ code) left at locals held holding regs flow among thin room k s = runs-body code left at locals held holding regs flow among.1 thin room k s
+  runs-body (Comment ∷ code) left at locals held holding regs flow among thin room k s = runs-body code left at locals held holding regs flow among.1 thin room k s
   runs-body (FuncInfo owner name arity ∷ code) left at locals held holding regs flow among thin room k s = refuses left at locals held k.process s
   runs-body (Return ∷ code) left at locals held holding regs flow among thin room k s = returns left at locals held (regs 0) k.process (k.terms 0 flow) s
   runs-body (Unknown ∷ code) left at locals held holding regs flow among thin room k s = absurd cc

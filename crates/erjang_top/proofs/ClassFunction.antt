@@ -8,7 +8,7 @@ use Rattle.std.proofs.lemmas.List.Sums.{sum_by-cons}
 use Rattle.ej_term.specs.Term.{Term}
 use Rattle.beam_code.specs.declared.module.Function.{Function}
 use Rattle.beam_code.specs.LabelRules.{opcodes}
-use Rattle.beam_code.specs.Opcode.{Source, X, Of, Integer, Atom, Nil, Opcode, Label, Line, FuncInfo, Move, Return, Unknown}
+use Rattle.beam_code.specs.Opcode.{Source, X, Of, Integer, Atom, Nil, Opcode, Label, Line, Comment, FuncInfo, Move, Return, Unknown}
 use Rattle.beam_code.specs.Opcode as code
 use Rattle.beam_code.specs.Accepted.{is_thin_opcode}
 use Rattle.beam_code.specs.Weights.{instruction_weight, weight, same_value}
@@ -46,6 +46,7 @@ body-count : (values : List code.Value) (code : List Opcode) → length (body_op
 body-count values [] = omega arith
 body-count values (Label n ∷ code) = omega (arith, weights-first (Label n) code, body-count values code)
 body-count values (Line ∷ code) = omega (arith, weights-first Line code, body-count values code)
+body-count values (Comment ∷ code) = omega (arith, weights-first Comment code, body-count values code)
 body-count values (FuncInfo owner name arity ∷ code) = omega (arith, weights-first (FuncInfo owner name arity) code)
 body-count values (Return ∷ code) = omega (arith, weights-first Return code)
 body-count values (Unknown ∷ code) = omega (arith, weights-first Unknown code, body-count values code)

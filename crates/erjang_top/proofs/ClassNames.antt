@@ -13,7 +13,7 @@ use Rattle.beam_code.specs.declared.module.Module.{Module}
 use Rattle.beam_code.specs.Keys.{same_key, key_of, is_among}
 use Rattle.beam_code.specs.LabelRules.{opcodes}
 use Rattle.beam_code.specs.Opcode as code
-use Rattle.beam_code.specs.Accepted.{is_thin_name, is_count, is_thin_opcode, is_thin_function}
+use Rattle.beam_code.specs.Accepted.{is_atom_name, is_count, is_thin_opcode, is_thin_function}
 use Rattle.erjang_top.specs.ClassFile.{Constant, Class}
 use Rattle.erjang_top.specs.ClassProfile.{utf8_in, utf8_at}
 use Rattle.erjang_top.specs.ClassTurn.{exported}
@@ -91,9 +91,9 @@ public-test m c f at name arity here small small' =
 
 few-arguments : (f : Function) → is_thin_function f ≡ true → f.arity < 256
 few-arguments f thin =
-    let p = and_parts (is_thin_name f.name && nat_le f.arity 255 && is_count f.entry) (list_all is_thin_opcode (opcodes f)) thin in
-    let q = and_parts (is_thin_name f.name && nat_le f.arity 255) (is_count f.entry) p.0 in
-    let few = leb-true f.arity 255 (and_parts (is_thin_name f.name) (nat_le f.arity 255) q.0).1 in
+    let p = and_parts (is_atom_name f.name && nat_le f.arity 255 && is_count f.entry) (list_all is_thin_opcode (opcodes f)) thin in
+    let q = and_parts (is_atom_name f.name && nat_le f.arity 255) (is_count f.entry) p.0 in
+    let few = leb-true f.arity 255 (and_parts (is_atom_name f.name) (nat_le f.arity 255) q.0).1 in
     omega (arith, few)
 
 -- no method is public for what the module does not export

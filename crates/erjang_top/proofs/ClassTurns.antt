@@ -11,9 +11,10 @@ use Rattle.ej_world.specs.World.{Raise}
 use Rattle.beam_code.specs.declared.module.Function.{Function}
 use Rattle.beam_code.specs.declared.module.Module.{Module}
 use Rattle.beam_code.specs.Keys.{Key, key_of, is_among}
+use Rattle.beam_code.proofs.AcceptedRules.{accepted_rules}
 use Rattle.beam_code.specs.LabelRules.{opcodes, begins_well, no_label_twice, labels_of}
 use Rattle.beam_code.specs.Slots.{WellSlotted}
-use Rattle.beam_code.specs.Accepted.{Accepted, is_thin_name, is_count, is_thin_opcode, is_thin_function}
+use Rattle.beam_code.specs.Accepted.{Accepted, is_atom_name, is_count, is_thin_opcode, is_thin_function}
 use Rattle.beam_code.specs.Turn.{end_reason}
 use Rattle.beam_code.specs.Weights.{weight, pool_weight}
 use Rattle.erjang_top.specs.ClassFile.{Method, Class}
@@ -104,7 +105,7 @@ class-runs m c a is thin me n owner name args few some here public' f =
     ∙ ap (entered_at c name args) to.is in
     let held : Held = nothing_held (map (λ t. OfTerm t) args) in
     let fits = and_parts (list_all (λ h. nat_le (weight h) 32767) m.functions) (nat_le (pool_weight m) 65534) a.sizes in
-    let labels = and_parts (list_all (begins_well m.name) m.functions) (no_label_twice (labels_of m)) a.label_rules in
+    let labels = and_parts (list_all (begins_well m.name) m.functions) (no_label_twice (labels_of m)) (accepted_rules m a) in
     let light : weight g ≤ 32767 = leb-true (weight g) 32767 (test-of-found key m.functions (λ h. nat_le (weight h) 32767) f fits.0) in
     let ops = function_ops values g in
     let budget : ℕ = (n + 1) * instructions_each in
@@ -112,7 +113,7 @@ class-runs m c a is thin me n owner name args few some here public' f =
     let transfers : n ≡ suc (n - 1) = omega (arith, some) in
     let all-thin : list_all is_thin_opcode (body g) ≡ true =
     behind-all is_thin_opcode g.entry (opcodes g)
-    (and_parts (is_thin_name g.name && nat_le g.arity 255 && is_count g.entry) (list_all is_thin_opcode (opcodes g)) (test-of-found key m.functions is_thin_function f thin)).1 in
+    (and_parts (is_atom_name g.name && nat_le g.arity 255 && is_count g.entry) (list_all is_thin_opcode (opcodes g)) (test-of-found key m.functions is_thin_function f thin)).1 in
     let ran : run_method me budget (activation c method 0) [] held ≡ finished me held (ending (given args) (body g)) (budget - length ops) =
     ap (λ k. run_method me k (activation c method 0) [] held) spare
     ∙ runs-function c method me values is.runtime is.entries g (budget - length ops) args held refl refl count refl

@@ -7,7 +7,7 @@ use Rattle.std.proofs.lemmas.List.Sums.{sum_by-cons}
 use Rattle.beam_code.specs.declared.module.Function.{Function}
 use Rattle.beam_code.specs.declared.module.Module.{Module}
 use Rattle.beam_code.specs.LabelRules.{opcodes}
-use Rattle.beam_code.specs.Opcode.{Value, Integer, Atom, Nil, Source, X, Of, Opcode, Label, Line, FuncInfo, Move, Return, Unknown}
+use Rattle.beam_code.specs.Opcode.{Value, Integer, Atom, Nil, Source, X, Of, Opcode, Label, Line, Comment, FuncInfo, Move, Return, Unknown}
 use Rattle.beam_code.specs.Weights.{instruction_weight, weight}
 use Rattle.erjang_top.specs.ClassFile.{Short, Byte, Wide, Op, IConst, SIPush, Invoke, local_bytes, op_bytes, code_bytes}
 use Rattle.erjang_top.specs.ModuleClass.{width_of, aload, astore, local_of, push_number, take_argument, take_arguments, push_value, push_source, move_ops, body_ops, is_entry, behind, body, function_ops, placed, method_of}
@@ -83,6 +83,7 @@ body-size : (values : List Value) (code : List Opcode) → size (body_ops values
 body-size values [] = lit≤ tt
 body-size values (Label n ∷ code) = omega (arith, total-cons (Label n) code, body-size values code)
 body-size values (Line ∷ code) = omega (arith, total-cons Line code, body-size values code)
+body-size values (Comment ∷ code) = omega (arith, total-cons Comment code, body-size values code)
 body-size values (FuncInfo owner name arity ∷ code) = let short : 13 ≤ total (FuncInfo owner name arity ∷ code) = omega (arith, total-cons (FuncInfo owner name arity) code) in short
 body-size values (Move from to ∷ code) =
     let a = size-append (move_ops values from to) (body_ops values code) in

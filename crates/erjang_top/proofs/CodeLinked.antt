@@ -5,7 +5,7 @@ use Rattle.std.specs.List.{list_all, AllByRecursion}
 use Rattle.std.proofs.lemmas.Bool.{and_from}
 use Rattle.beam_code.specs.declared.module.Function.{Function}
 use Rattle.beam_code.specs.declared.module.Module.{Module}
-use Rattle.beam_code.specs.Opcode.{Value, Integer, Atom, Nil, Source, X, Of, Opcode, Label, Line, FuncInfo, Move, Return, Unknown}
+use Rattle.beam_code.specs.Opcode.{Value, Integer, Atom, Nil, Source, X, Of, Opcode, Label, Line, Comment, FuncInfo, Move, Return, Unknown}
 use Rattle.erjang_top.specs.ClassFile.{Op, IConst, SIPush, op_bytes}
 use Rattle.erjang_top.specs.Linking.{op_linked}
 use Rattle.erjang_top.specs.ModuleClass.{push_number, take_argument, take_arguments, push_value, push_source, move_ops, body_ops, body, function_ops, placed, class_of}
@@ -42,6 +42,7 @@ body-linked : (m : Module) (values : List Value) (code : List Opcode) → AreLin
 body-linked m values [] = tt
 body-linked m values (Label n ∷ code) = body-linked m values code
 body-linked m values (Line ∷ code) = body-linked m values code
+body-linked m values (Comment ∷ code) = body-linked m values code
 body-linked m values (FuncInfo owner name arity ∷ code) = (refl, (refl, (refl, (refl, (refl, (refl, (refl, tt)))))))
 body-linked m values (Move from to ∷ code) =
     all-append (IsLinked m) (move_ops values from to) (body_ops values code) (all-append (IsLinked m) (push_source values from) _ (source-linked m values from) (refl, tt)) (body-linked m values code)

@@ -7,7 +7,7 @@ use Rattle.std.proofs.lemmas.Bool.{and_parts, and_from, leb-true, ltb-true, lt-l
 use Rattle.std.proofs.lemmas.Bool.Decides.{nat_tests}
 use Rattle.beam_code.specs.declared.module.Function.{Function}
 use Rattle.beam_code.specs.declared.module.Module.{Module}
-use Rattle.beam_code.specs.Opcode.{Value, Integer, Atom, Nil, Source, X, Of, Opcode, Label, Line, FuncInfo, Move, Return, Unknown}
+use Rattle.beam_code.specs.Opcode.{Value, Integer, Atom, Nil, Source, X, Of, Opcode, Label, Line, Comment, FuncInfo, Move, Return, Unknown}
 use Rattle.beam_code.specs.Accepted.{is_register, is_thin_source, is_thin_opcode}
 use Rattle.std.proofs.Math.Nat.{max-le}
 use Rattle.std.proofs.lemmas.Grind.{flat_map-append}
@@ -90,6 +90,7 @@ pub body-ops : (m : Module) (code : List Opcode) → AllByRecursion (λ i. is_th
 body-ops m [] thin among = tt
 body-ops m (Label n ∷ code) thin among = body-ops m code thin.1 among.1
 body-ops m (Line ∷ code) thin among = body-ops m code thin.1 among.1
+body-ops m (Comment ∷ code) thin among = body-ops m code thin.1 among.1
 body-ops m (FuncInfo owner name arity ∷ code) thin among = raise-ops m
 body-ops m (Move from to ∷ code) thin among =
     all-append (IsOp (pool_of m)) (move_ops (constants m) from to) (body_ops (constants m) code) (move-ops m from to thin.0 among.0) (body-ops m code thin.1 among.1)
@@ -107,6 +108,7 @@ pub body-some : (values : List Value) (holding : Holding) (code : List Opcode) �
 body-some values holding [] h = absurd cc
 body-some values holding (Label n ∷ code) h = body-some values holding code h
 body-some values holding (Line ∷ code) h = body-some values holding code h
+body-some values holding (Comment ∷ code) h = body-some values holding code h
 body-some values holding (FuncInfo owner name arity ∷ code) h = lit< tt
 body-some values holding (Move from to ∷ code) h =
     append-some (move_ops values from to) (body_ops values code) (body-some values (with_register to holding) code (and_parts (is_held holding from) (flows (with_register to holding) code) h).1)
@@ -117,6 +119,7 @@ pub registers-few : (code : List Opcode) → AllByRecursion (λ i. is_thin_opcod
 registers-few [] thin = lit≤ tt
 registers-few (Label n ∷ code) thin = registers-few code thin.1
 registers-few (Line ∷ code) thin = registers-few code thin.1
+registers-few (Comment ∷ code) thin = registers-few code thin.1
 registers-few (FuncInfo owner name arity ∷ code) thin = registers-few code thin.1
 registers-few (Move from to ∷ code) thin =
     let p = and_parts (is_thin_source from) (is_register to) thin.0 in

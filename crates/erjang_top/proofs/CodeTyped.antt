@@ -9,7 +9,7 @@ use Rattle.std.proofs.lemmas.Bool.Decides.{nat_tests}
 use Rattle.std.proofs.lemmas.List.{length-set, length-replicate}
 use Rattle.beam_code.specs.declared.module.Function.{Function}
 use Rattle.beam_code.specs.declared.module.Module.{Module}
-use Rattle.beam_code.specs.Opcode.{Value, Integer, Atom, Nil, Source, X, Of, Opcode, Label, Line, FuncInfo, Move, Return, Unknown}
+use Rattle.beam_code.specs.Opcode.{Value, Integer, Atom, Nil, Source, X, Of, Opcode, Label, Line, Comment, FuncInfo, Move, Return, Unknown}
 use Rattle.beam_code.specs.Weights.{same_value}
 use Rattle.erjang_top.specs.ClassFile.{Op, IConst, SIPush, LdcW, Ldc2W, Invoke, IReturn, op_bytes}
 use Rattle.erjang_top.specs.Flow.{Holding, with_register, arguments, is_held, flows}
@@ -137,6 +137,7 @@ body-typed : (m : Module) (count : ℕ) (holding : Holding) (code : List Opcode)
 body-typed m count holding [] h among few locals are = absurd cc
 body-typed m count holding (Label n ∷ code) h among few locals are = body-typed m count holding code h among.1 few locals are
 body-typed m count holding (Line ∷ code) h among few locals are = body-typed m count holding code h among.1 few locals are
+body-typed m count holding (Comment ∷ code) h among few locals are = body-typed m count holding code h among.1 few locals are
 body-typed m count holding (FuncInfo owner name arity ∷ code) h among few locals are = raise-typed m locals are.process_is
 body-typed m count holding (Move from to ∷ code) h among few locals are =
     let p = and_parts (is_held holding from) (flows (with_register to holding) code) h in

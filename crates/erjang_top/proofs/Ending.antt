@@ -6,7 +6,7 @@ use Rattle.ej_term.specs.declared.class.Class3.TheVariants.{Error}
 use Rattle.ej_term.specs.Term.{Term, Atom, Nil, list}
 use Rattle.ej_world.specs.World.{Begin, Call, Event, Raise, Answer}
 use Rattle.ej_world.specs.Run.{Ended, Turned}
-use Rattle.beam_code.specs.Opcode.{Source, X, Of, Opcode, Label, Line, FuncInfo, Move, Return, Unknown}
+use Rattle.beam_code.specs.Opcode.{Source, X, Of, Opcode, Label, Line, Comment, FuncInfo, Move, Return, Unknown}
 use Rattle.beam_code.specs.Turn.{term_of, end_reason, list_of}
 
 -- the term in each x register
@@ -40,6 +40,7 @@ abbrev pub ending : Registers → List Opcode → Ending
 ending registers [] = Refused
 ending registers (Label n ∷ code) = ending registers code
 ending registers (Line ∷ code) = ending registers code
+ending registers (Comment ∷ code) = ending registers code
 ending registers (FuncInfo owner name arity ∷ code) = Refused
 ending registers (Move from to ∷ code) = ending (with_term to (source_term registers from) registers) code
 ending registers (Return ∷ code) = Returned (registers 0)

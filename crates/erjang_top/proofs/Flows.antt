@@ -7,7 +7,7 @@ use Rattle.std.specs.Str.{bytes_eq}
 use Rattle.std.proofs.lemmas.Bool.{and_parts}
 use Rattle.beam_code.specs.declared.module.Function.{Function}
 use Rattle.beam_code.specs.LabelRules.{opcodes, is_head, is_beginning, begins_well}
-use Rattle.beam_code.specs.Opcode.{Opcode, Label, Line, FuncInfo, Move, Return, Unknown}
+use Rattle.beam_code.specs.Opcode.{Opcode, Label, Line, Comment, FuncInfo, Move, Return, Unknown}
 use Rattle.beam_code.specs.Slots.{WellSlotted}
 use Rattle.erjang_top.specs.Flow.{arguments, flows}
 use Rattle.erjang_top.specs.ModuleClass.{is_entry, behind, body}
@@ -41,6 +41,7 @@ found-behind entry (Label n ∷ code) h = by (found-behind entry code) (nat_eq n
     by later true e = refl
     by later false e = later e
 found-behind entry (Line ∷ code) h = found-behind entry code h
+found-behind entry (Comment ∷ code) h = found-behind entry code h
 found-behind entry (FuncInfo owner name arity ∷ code) h = found-behind entry code h
 found-behind entry (Move from to ∷ code) h = found-behind entry code h
 found-behind entry (Return ∷ code) h = found-behind entry code h

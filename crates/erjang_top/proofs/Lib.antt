@@ -4,11 +4,7 @@ mod Answered
 pub mod Appends
 mod WorkedLemmas
 pub mod Reading
-pub mod TermLaw
-pub mod FormLaw
-pub mod FormKinds
-pub mod OneModule
-pub mod ReadLemmas
+pub mod OneSource
 pub mod OneFirst
 pub mod Flows
 pub mod ModuleValues
@@ -17,6 +13,8 @@ pub mod EntryLaw
 pub mod OpLaw
 pub mod ClassLaw
 pub mod NameText
+pub mod AtomText
+pub mod AtomRead
 pub mod NameLaw
 pub mod ThinValues
 pub mod PoolProfile
@@ -47,8 +45,6 @@ pub mod SlotsGood
 pub mod PlainBytes
 pub mod AcceptedLaw
 pub mod SeenSets
-pub mod KeyLemmas
-pub mod LabelLemmas
 pub mod SlotSteps
 pub mod Marks
 pub mod ValueLemmas
@@ -59,8 +55,6 @@ pub mod Plain
 pub mod SelectSteps
 pub mod PoolSteps
 pub mod ClassSteps
-pub mod Conjunction
-pub mod Lists
-pub mod FunctionRows
-pub mod ModuleRows
-pub mod HeadParts
+pub mod GoodTerms
+pub mod GoodReading
+pub mod RangesLaw

@@ -9,6 +9,7 @@ use Rattle.std.proofs.lemmas.Bool.{and_parts, and_from, leb-true}
 use Rattle.beam_code.specs.declared.module.Function.{Function}
 use Rattle.beam_code.specs.declared.module.Module.{Module}
 use Rattle.beam_code.specs.Keys.{key_of, is_among}
+use Rattle.beam_code.proofs.AcceptedRules.{accepted_rules}
 use Rattle.beam_code.specs.LabelRules.{opcodes, begins_well, no_label_twice, labels_of}
 use Rattle.beam_code.specs.Slots.{WellSlotted}
 use Rattle.beam_code.specs.Accepted.{is_thin_opcode, Accepted}
@@ -30,7 +31,6 @@ use Rattle.erjang_top.proofs.CodeTyped.{method-typed}
 use Rattle.erjang_top.proofs.Flows.{slotted-flows}
 use Rattle.erjang_top.proofs.NameLaw as names
 use Rattle.erjang_top.proofs.NameLaw.{methods_distinct}
-use Rattle.erjang_top.proofs.NameText.{name_scalars}
 use Rattle.erjang_top.proofs.PoolProfile.{values-length, pool-within, pool-profile}
 use Rattle.erjang_top.proofs.ThinValues.{IsThinFunction, thin-module, behind-all}
 use Rattle.erjang_top.proofs.ModuleValues.{IsAmong, values-among, get-behind}
@@ -63,7 +63,7 @@ ready m (f ∷ fs) thin among begins slots light =
 pub all-ready : (m : Module) → Accepted m → AllByRecursion (IsReady m) m.functions
 all-ready m a =
     ready m m.functions (thin-module m a.plain).functions (values-among m)
-    (and_parts (list_all (begins_well m.name) m.functions) (no_label_twice (labels_of m)) a.label_rules).0 a.slots
+    (and_parts (list_all (begins_well m.name) m.functions) (no_label_twice (labels_of m)) (accepted_rules m a)).0 a.slots
     (and_parts (list_all (λ f. nat_le (weight f) 32767) m.functions) (nat_le (pool_weight m) 65534) a.sizes).0
 
 -- ---- the names of their methods
@@ -134,7 +134,7 @@ method-profile m at f r named =
     let some = function-some (constants m) f r.flow in
     record {
       flags = flags-of-method m f;
-      name = (method_name f.name f.arity, (f.name, f.arity, omega (arith, r.thin.arity), name_scalars f.name r.thin.name.characters, refl), named);
+      name = (method_name f.name f.arity, (f.name, f.arity, omega (arith, r.thin.arity), r.thin.name.scalars, refl), named);
       descriptor = refl;
       code_name = refl;
       max_stack = lit< tt;
@@ -181,7 +181,7 @@ in-profile m a =
     record {
       pool = pool;
       flags = refl;
-      this = (class_name m.name, (m.name, t.name.inhabited, name_scalars m.name t.name.characters, refl), refl);
+      this = (class_name m.name, (m.name, t.inhabited, t.name.scalars, refl), refl);
       above = refl;
       method_count =
           let c = methods-count m at fs in

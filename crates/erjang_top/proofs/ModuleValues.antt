@@ -6,10 +6,11 @@ use Rattle.std.specs.Option.{option_and_then}
 use Rattle.std.proofs.lemmas.Bool.Decides.{Decides-int_eq}
 use Rattle.std.proofs.lemmas.List.Folds.{list_any-append}
 use Rattle.std.proofs.lemmas.Slice.Eq.{bytes_eq-Decides}
+use Rattle.ej_term.specs.TermPrint.{print_atom}
 use Rattle.beam_code.specs.declared.module.Function.{Function}
 use Rattle.beam_code.specs.declared.module.Module.{Module}
 use Rattle.beam_code.specs.LabelRules.{opcodes}
-use Rattle.beam_code.specs.Opcode.{Value, Integer, Atom, Nil, X, Of, Opcode, Label, Line, FuncInfo, Move, Return, Unknown}
+use Rattle.beam_code.specs.Opcode.{Value, Integer, Atom, Nil, X, Of, Opcode, Label, Line, Comment, FuncInfo, Move, Return, Unknown}
 use Rattle.beam_code.specs.Weights.{value_in, values_of, same_value, with_value}
 use Rattle.erjang_top.specs.ClassFile.{Constant}
 use Rattle.erjang_top.specs.ClassProfile.{utf8_in, string_in, string_at, long_in, long_at}
@@ -87,6 +88,7 @@ code-among : (values : List Value) (code : List Opcode) → Within (filter_map v
 code-among values [] within = tt
 code-among values (Label n ∷ code) within = (tt, code-among values code within)
 code-among values (Line ∷ code) within = (tt, code-among values code within)
+code-among values (Comment ∷ code) within = (tt, code-among values code within)
 code-among values (FuncInfo owner name arity ∷ code) within = (tt, code-among values code within)
 code-among values (Move (X n) to ∷ code) within = (tt, code-among values code within)
 code-among values (Move (Of value) to ∷ code) within = (
@@ -134,7 +136,7 @@ get-behind (x ∷ xs) ys n = ap (slice_get (x ∷ (xs ++ ys))) suc_left ∙ get-
 -- the entry at an index is the value's
 abbrev pub HasValue : List Constant → ℕ → Value → Type 0
 HasValue pool index (Integer number) = long_at pool index ≡ Some number
-HasValue pool index (Atom name) = string_at pool index ≡ Some name
+HasValue pool index (Atom name) = string_at pool index ≡ Some (print_atom name)
 HasValue pool index Nil = string_at pool index ≡ Some (codes "[]")
 
 -- a value's entries stand at its place

@@ -1,14 +1,14 @@
 -- The names of classes and methods are short and ASCII, and so modified UTF-8.
-use Rattle.std.proofs.Common.{◌≡◌, ◌≢◌, ℕ, ◌+◌, ◌*◌, ◌<◌, ◌≤◌, ◌^◌, Bool, true, ◌&&◌, not, lit≤, subst, nat_lt, nat_le, length-append, encode_utf8_all, List, [], ◌∷◌, ◌++◌, length, codes, refl, sym, ap, arith}
+use Rattle.std.proofs.Common.{◌≡◌, ℕ, ◌+◌, ◌*◌, ◌/◌, ◌%◌, ◌<◌, ◌≤◌, ◌^◌, inl, inr, Bool, true, false, cond, ◌&&◌, lit≤, nat_lt, nat_le, length-append, encode_utf8_all, List, [], ◌∷◌, ◌++◌, length, codes, refl, ap, arith}
 use Rattle.std.specs.List.{flat_map, list_all}
 use Rattle.std.specs.Str.{all_scalars}
-use Rattle.std.proofs.lemmas.Bool.{and_parts, and_from, or_left, lt-ltb, ltb-true, leb-true, agree_below_at}
-use Rattle.std.proofs.lemmas.Bool.Decides.{nat_tests}
 use Rattle.std.specs.Fmt.{digits, decimal}
-use Rattle.std.proofs.lemmas.Str.{encode_ascii}
-use Rattle.std.proofs.Math.Utf8.{low_scalar}
-use Rattle.ej_term.specs.Atoms.{is_name_character, is_lower, is_plain, is_name, is_reserved}
-use Rattle.beam_code.specs.Accepted.{is_thin_name}
+use Rattle.std.proofs.Math.Nat.{mod-lt}
+use Rattle.std.proofs.Math.Utf8.{scalar, scalar_cases, encode, next}
+use Rattle.std.proofs.lemmas.Bool.{and_parts, and_from, lt-ltb, ltb-true, leb-true, agree_below_at}
+use Rattle.std.proofs.lemmas.Bool.Decides.{nat_tests}
+use Rattle.std.proofs.lemmas.Str.{length-encode, len_utf8_bounds}
+use Rattle.beam_code.specs.Accepted.{is_atom_name}
 use Rattle.erjang_top.specs.ClassFile.{Constant, Utf8}
 use Rattle.erjang_top.specs.ClassProfile.{modified_utf8, IsModifiedUtf8, IsEntry}
 use Rattle.erjang_top.specs.Mangle.{mangle_byte, mangle, class_name, method_name}
@@ -60,56 +60,59 @@ mangled (b ∷ bytes) h =
 
 -- ---- names
 
+-- an atom's name
 pub record IsNameText (name : List ℕ) : Type 0 where
-  pub inhabited : name ≢ []
-  pub characters : list_all is_name_character name ≡ true
+  pub scalars : all_scalars name ≡ true
   pub short : length name ≤ 255
 
-character_ascii : (c : ℕ) → is_name_character c ≡ true → c < 128
-character_ascii c h = grind (arith, nat_tests)
+pub name_text : (name : List ℕ) → is_atom_name name ≡ true → IsNameText name
+name_text name h =
+    let p = and_parts (all_scalars name) (nat_le (length name) 255) h in
+    record { scalars = p.0; short = leb-true (length name) 255 p.1 }
 
-lower_character : (c : ℕ) → is_lower c ≡ true → is_name_character c ≡ true
-lower_character c h = or_left _ _ (or_left _ _ (or_left _ _ (or_left _ _ h)))
+abbrev is_byte : ℕ → Bool
+is_byte b = nat_lt b 256
 
-pub name_text : (name : List ℕ) → is_thin_name name ≡ true → IsNameText name
-name_text [] h = absurd cc
-name_text (c ∷ cs) h =
-    let thin = and_parts (is_plain (c ∷ cs)) (nat_le (length (c ∷ cs)) 255) h in
-    let plain = and_parts (is_name (c ∷ cs)) (not (is_reserved (c ∷ cs))) thin.0 in
-    let name = and_parts (is_lower c) (list_all is_name_character cs) plain.0 in
-    record {
-      inhabited = λ e. cc;
-      characters = and_from _ _ (lower_character c name.0) name.1;
-      short = leb-true (length (c ∷ cs)) 255 thin.1;
-    }
+small : (b : ℕ) → b < 256 → is_byte b ≡ true
+small b lt = lt-ltb b 256 lt
 
--- a name is written as itself
-pub encoded_name : (cs : List ℕ) → list_all is_name_character cs ≡ true → encode_utf8_all cs ≡ cs
-encoded_name [] h = refl
-encoded_name (c ∷ cs) h =
-    let p = and_parts (is_name_character c) (list_all is_name_character cs) h in
-    rw (encode_ascii c (character_ascii c p.0), encoded_name cs p.1) refl
+next-small : (n : ℕ) → is_byte (next n) ≡ true
+next-small n = let below : n % 64 < 64 = mod-lt n (omega arith) in small (next n) (omega (arith, below))
 
-pub name_scalars : (cs : List ℕ) → list_all is_name_character cs ≡ true → all_scalars cs ≡ true
-name_scalars [] h = refl
-name_scalars (c ∷ cs) h =
-    let p = and_parts (is_name_character c) (list_all is_name_character cs) h in
-    let small = character_ascii c p.0 in
-    and_from _ _ (low_scalar c (omega arith)) (name_scalars cs p.1)
+-- a character's UTF-8 is of bytes
+character_bytes : (c : ℕ) → c < 1114112 → list_all is_byte (encode c) ≡ true
+unfolding encode
+character_bytes c lt = by (nat_lt c 128) (nat_lt c 2048) (nat_lt c 65536) refl refl refl
+  where
+    by : (x y z : Bool) → nat_lt c 128 ≡ x → nat_lt c 2048 ≡ y → nat_lt c 65536 ≡ z
+        → list_all is_byte (cond x (c ∷ []) (cond y ((192 + c / 64) ∷ next c ∷ []) (cond z ((224 + c / 4096) ∷ next (c / 64) ∷ next c ∷ []) ((240 + c / 262144) ∷ next (c / 4096) ∷ next (c / 64) ∷ next c ∷ [])))) ≡ true
+    by true y z e f g = and_from _ _ (small c (omega (arith, ltb-true c 128 e))) refl
+    by false true z e f g = and_from _ _ (small (192 + c / 64) (omega (arith, ltb-true c 2048 f))) (and_from _ _ (next-small c) refl)
+    by false false true e f g = and_from _ _ (small (224 + c / 4096) (omega (arith, ltb-true c 65536 g))) (and_from _ _ (next-small (c / 64)) (and_from _ _ (next-small c) refl))
+    by false false false e f g =
+        and_from _ _ (small (240 + c / 262144) (omega (arith, lt)))
+        (and_from _ _ (next-small (c / 4096)) (and_from _ _ (next-small (c / 64)) (and_from _ _ (next-small c) refl)))
 
-name_bytes : (cs : List ℕ) → list_all is_name_character cs ≡ true → list_all (λ b. nat_lt b 256) cs ≡ true
+scalar-lt : (c : ℕ) → scalar c ≡ true → c < 1114112
+scalar-lt c h = elim (scalar_cases c h) [
+  | inl low ↦ omega (arith, low)
+  | inr high ↦ high.1
+]
+
+name_bytes : (cs : List ℕ) → all_scalars cs ≡ true → list_all is_byte (encode_utf8_all cs) ≡ true
 name_bytes [] h = refl
 name_bytes (c ∷ cs) h =
-    let p = and_parts (is_name_character c) (list_all is_name_character cs) h in
-    let small = character_ascii c p.0 in
-    and_from _ _ (lt-ltb c 256 (omega arith)) (name_bytes cs p.1)
+    let p = and_parts (scalar c) (all_scalars cs) h in
+    list_all-append is_byte (encode c) (encode_utf8_all cs) (character_bytes c (scalar-lt c p.0)) (name_bytes cs p.1)
 
-pub mangled_name : (name : List ℕ) → IsNameText name → IsShortAscii 765 (mangle name)
+encoded_length : (cs : List ℕ) → length (encode_utf8_all cs) ≤ 4 * length cs
+encoded_length [] = omega arith
+encoded_length (c ∷ cs) = omega (arith, length-append (encode c) (encode_utf8_all cs), length-encode c, (len_utf8_bounds c).1, encoded_length cs)
+
+pub mangled_name : (name : List ℕ) → IsNameText name → IsShortAscii 3060 (mangle name)
 mangled_name name t =
-    let m = mangled name (name_bytes name t.characters) in
-    let short : length (flat_map mangle_byte name) ≤ 765 = omega (arith, m.short, t.short) in
-    let here : IsShortAscii 765 (flat_map mangle_byte name) = record { ascii = m.ascii; short = short } in
-    subst (λ (bytes : List ℕ). IsShortAscii 765 (flat_map mangle_byte bytes)) (sym (encoded_name name t.characters)) here
+    let m = mangled (encode_utf8_all name) (name_bytes name t.scalars) in
+    record { ascii = m.ascii; short = omega (arith, m.short, encoded_length name, t.short) }
 
 pub joined : (m n : ℕ) (xs ys : List ℕ) → IsShortAscii m xs → IsShortAscii n ys → IsShortAscii (m + n) (xs ++ ys)
 joined m n xs ys f g = record { ascii = list_all-append is_inner_ascii xs ys f.ascii g.ascii; short = omega (arith, f.short, g.short, length-append xs ys) }
@@ -120,12 +123,12 @@ arity_text n lt =
     let p = and_parts (list_all is_inner_ascii (decimal n)) (nat_le (length (decimal n)) 3) (agree_below_at (λ k. list_all is_inner_ascii (decimal k) && nat_le (length (decimal k)) 3) (λ k. true) 256 n refl lt) in
     record { ascii = p.0; short = leb-true (length (decimal n)) 3 p.1 }
 
-pub class_name_text : (name : List ℕ) → IsNameText name → IsShortAscii 771 (class_name name)
-class_name_text name t = joined 6 765 (codes "erl/m/") (mangle name) (record { ascii = refl; short = lit≤ tt }) (mangled_name name t)
+pub class_name_text : (name : List ℕ) → IsNameText name → IsShortAscii 3066 (class_name name)
+class_name_text name t = joined 6 3060 (codes "erl/m/") (mangle name) (record { ascii = refl; short = lit≤ tt }) (mangled_name name t)
 
-pub method_name_text : (name : List ℕ) (arity : ℕ) → IsNameText name → arity < 256 → IsShortAscii 770 (method_name name arity)
+pub method_name_text : (name : List ℕ) (arity : ℕ) → IsNameText name → arity < 256 → IsShortAscii 3065 (method_name name arity)
 method_name_text name arity t lt =
-    joined 767 3 (mangle name ++ codes "__") (decimal arity) (joined 765 2 (mangle name) (codes "__") (mangled_name name t) (record { ascii = refl; short = lit≤ tt })) (arity_text arity lt)
+    joined 3062 3 (mangle name ++ codes "__") (decimal arity) (joined 3060 2 (mangle name) (codes "__") (mangled_name name t) (record { ascii = refl; short = lit≤ tt })) (arity_text arity lt)
 
 -- ---- entries of the pool
 
@@ -135,17 +138,3 @@ utf8_entry pool n bytes lt t = let short : length bytes < 2 ^ 16 = omega (arith,
 -- an entry of a text that is written out
 pub spelled_entry : (pool : List Constant) (bytes : List ℕ) → list_all is_inner_ascii bytes ≡ true → length bytes < 2 ^ 16 → IsEntry pool (Utf8 bytes)
 spelled_entry pool bytes ascii lt = (lt, IsModifiedUtf8-ascii bytes ascii)
-
--- an entry of an atom
-pub name_entry_text : (pool : List Constant) (name : List ℕ) → is_thin_name name ≡ true → IsEntry pool (Utf8 name)
-name_entry_text pool name h =
-    let t = name_text name h in
-    let m = character_list name t.characters in
-    (omega (arith, t.short), IsModifiedUtf8-ascii name m)
-  where
-    inner : (c : ℕ) → is_name_character c ≡ true → is_inner_ascii c ≡ true
-    inner c h = grind (arith, nat_tests)
-
-    character_list : (cs : List ℕ) → list_all is_name_character cs ≡ true → list_all is_inner_ascii cs ≡ true
-    character_list [] h = refl
-    character_list (c ∷ cs) h = let p = and_parts (is_name_character c) (list_all is_name_character cs) h in and_from _ _ (inner c p.0) (character_list cs p.1)

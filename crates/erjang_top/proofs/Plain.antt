@@ -1,5 +1,5 @@
 -- What the names and sources of a plain module are written as.
-use Rattle.std.proofs.Common.{◌≡◌, ℕ, ◌<◌, ◌^◌, true, ◌&&◌, nat_lt, encode_utf8_all, List, length, ap, sym, ◌∙◌, subst, arith}
+use Rattle.std.proofs.Common.{◌≡◌, ℕ, ◌<◌, ◌^◌, true, ◌&&◌, nat_lt, List, length, ap, sym, ◌∙◌, subst, arith}
 use Rattle.std.specs.Prelude.{ℤ}
 use Rattle.std.specs.Int.{w64}
 use Rattle.std.proofs.Math.Facts.{to_z-of_z}
@@ -10,21 +10,14 @@ use Rattle.beam_code.specs.declared.module.Function.{Function}
 use Rattle.beam_code.specs.declared.module.Module.{Module}
 use Rattle.beam_code.specs.LabelRules.{opcodes}
 use Rattle.beam_code.specs.Opcode.{Integer, Source, Of, Opcode}
-use Rattle.beam_code.specs.Accepted.{is_thin_name, is_thin_opcode, is_thin_function, is_thin_module, is_thin_source}
+use Rattle.beam_code.specs.Accepted.{is_atom_name, is_thin_opcode, is_thin_function, is_thin_module, is_thin_source}
 use Rattle.erjang_top.specs.Mangle.{class_name, method_name}
 use Rattle.erjang_top.specs.ModuleClass.{body}
-use Rattle.erjang_top.proofs.NameText.{name_text, encoded_name, class_name_text, method_name_text}
+use Rattle.erjang_top.proofs.NameText.{class_name_text, method_name_text}
 use Rattle.erjang_top.proofs.ThinValues.{all-true, integer-fits, thin-function, thin-module, behind-all}
 
--- an atom's text is its name
-pub atom_text : (name bytes : List ℕ) → is_thin_name name ≡ true → bytes ≡ encode_utf8_all name → bytes ≡ name
-atom_text name bytes h e = e ∙ encoded_name name (name_text name h).characters
-
-pub atom_short : (name bytes : List ℕ) → is_thin_name name ≡ true → bytes ≡ encode_utf8_all name → length bytes < 2 ^ 16
-atom_short name bytes h e = let short = (name_text name h).short in omega (arith, ap length (atom_text name bytes h e))
-
 pub functions_plain : (m : Module) → is_thin_module m ≡ true → AllByRecursion (λ f. is_thin_function f ≡ true) m.functions
-functions_plain m h = all-true is_thin_function m.functions (and_parts (is_thin_name m.name && nat_lt 0 (length m.functions)) (list_all is_thin_function m.functions) h).1
+functions_plain m h = all-true is_thin_function m.functions (and_parts (is_atom_name m.name && nat_lt 0 (length m.name)) (list_all is_thin_function m.functions) h).1
 
 pub method_name_short : (f : Function) (bytes : List ℕ) → is_thin_function f ≡ true → bytes ≡ method_name f.name f.arity → length bytes < 2 ^ 16
 method_name_short f bytes h e =

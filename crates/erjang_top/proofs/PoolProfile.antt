@@ -5,6 +5,7 @@ use Rattle.std.specs.List.{list_all, AllByRecursion}
 use Rattle.std.specs.Option.{option_and_then}
 use Rattle.std.proofs.lemmas.Bool.{and_parts, leb-true}
 use Rattle.std.proofs.lemmas.List.{length-map}
+use Rattle.ej_term.specs.TermPrint.{print_atom}
 use Rattle.beam_code.specs.declared.module.Function.{Function}
 use Rattle.beam_code.specs.declared.module.Module.{Module}
 use Rattle.beam_code.specs.Opcode.{Value, Integer, Atom, Nil}
@@ -13,7 +14,8 @@ use Rattle.erjang_top.specs.ClassFile.{Constant, Gap, Utf8, Long, StringEntry}
 use Rattle.erjang_top.specs.ClassProfile.{utf8_in, utf8_at, has_gaps, IsEntry, IsPool}
 use Rattle.erjang_top.specs.Mangle.{class_name, method_name}
 use Rattle.erjang_top.specs.ModuleClass.{fixed_entries, first_value, value_entries, values_entries, name_entry, constants, pool_of}
-use Rattle.erjang_top.proofs.NameText.{IsNameText, class_name_text, method_name_text, utf8_entry, spelled_entry, name_entry_text}
+use Rattle.erjang_top.proofs.NameText.{IsNameText, class_name_text, method_name_text, utf8_entry, spelled_entry}
+use Rattle.erjang_top.proofs.AtomText.{atom_entry}
 use Rattle.erjang_top.proofs.ThinValues.{IsThinValue, IsThinFunction, IsThinModule, all-append, integer-fits}
 use Rattle.erjang_top.proofs.ModuleValues.{get-behind}
 
@@ -74,10 +76,10 @@ values-entries pool front at [] rest e l all = tt
 values-entries pool front at (Integer number ∷ values) rest e l all =
     (integer-fits number all.0, (tt, values-entries pool (front ++ (Long number ∷ Gap ∷ [])) (at + 2) values rest (e ∙ sym (append_assoc front (Long number ∷ Gap ∷ []) (values_entries (at + 2) values ++ rest))) (omega (arith, l, length-append front (Long number ∷ Gap ∷ []))) all.1))
 values-entries pool front at (Atom name ∷ values) rest e l all = (
-  text-behind pool front (values_entries (at + 2) values ++ rest) at name e l,
+  text-behind pool front (values_entries (at + 2) values ++ rest) at (print_atom name) e l,
   (
-    name_entry_text pool name all.0,
-    values-entries pool (front ++ (StringEntry (at + 1) ∷ Utf8 name ∷ [])) (at + 2) values rest (e ∙ sym (append_assoc front (StringEntry (at + 1) ∷ Utf8 name ∷ []) (values_entries (at + 2) values ++ rest))) (omega (arith, l, length-append front (StringEntry (at + 1) ∷ Utf8 name ∷ []))) all.1,
+    atom_entry pool name all.0,
+    values-entries pool (front ++ (StringEntry (at + 1) ∷ Utf8 (print_atom name) ∷ [])) (at + 2) values rest (e ∙ sym (append_assoc front (StringEntry (at + 1) ∷ Utf8 (print_atom name) ∷ []) (values_entries (at + 2) values ++ rest))) (omega (arith, l, length-append front (StringEntry (at + 1) ∷ Utf8 (print_atom name) ∷ []))) all.1,
   ),
 )
 values-entries pool front at (Nil ∷ values) rest e l all = (
@@ -90,12 +92,12 @@ values-entries pool front at (Nil ∷ values) rest e l all = (
 
 names-entries : (pool : List Constant) (fs : List Function) → AllByRecursion IsThinFunction fs → AllByRecursion (IsEntry pool) (map name_entry fs)
 names-entries pool [] all = tt
-names-entries pool (f ∷ fs) all = (utf8_entry pool 770 (method_name f.name f.arity) (lit< tt) (method_name_text f.name f.arity all.0.name (omega (arith, all.0.arity))), names-entries pool fs all.1)
+names-entries pool (f ∷ fs) all = (utf8_entry pool 3065 (method_name f.name f.arity) (lit< tt) (method_name_text f.name f.arity all.0.name (omega (arith, all.0.arity))), names-entries pool fs all.1)
 
 fixed-entries : (m : Module) → IsNameText m.name → AllByRecursion (IsEntry (pool_of m)) (fixed_entries (class_name m.name))
 fixed-entries m t =
     let pool = pool_of m in
-    (tt, (utf8_entry pool 771 (class_name m.name) (lit< tt) (class_name_text m.name t), (refl, (spelled_entry pool _ refl (lit< tt), (refl, (spelled_entry pool _ refl (lit< tt), (spelled_entry pool _ refl (lit< tt), (spelled_entry pool _ refl (lit< tt), (refl, (spelled_entry pool _ refl (lit< tt), (spelled_entry pool _ refl (lit< tt), ((refl, refl), ((refl, refl), (spelled_entry pool _ refl (lit< tt), (spelled_entry pool _ refl (lit< tt), ((refl, refl), ((refl, refl), (spelled_entry pool _ refl (lit< tt), (spelled_entry pool _ refl (lit< tt), ((refl, refl), ((refl, refl), (spelled_entry pool _ refl (lit< tt), (spelled_entry pool _ refl (lit< tt), ((refl, refl), ((refl, refl), (spelled_entry pool _ refl (lit< tt), (spelled_entry pool _ refl (lit< tt), ((refl, refl), ((refl, refl), (refl, (spelled_entry pool _ refl (lit< tt), tt)))))))))))))))))))))))))))))))
+    (tt, (utf8_entry pool 3066 (class_name m.name) (lit< tt) (class_name_text m.name t), (refl, (spelled_entry pool _ refl (lit< tt), (refl, (spelled_entry pool _ refl (lit< tt), (spelled_entry pool _ refl (lit< tt), (spelled_entry pool _ refl (lit< tt), (refl, (spelled_entry pool _ refl (lit< tt), (spelled_entry pool _ refl (lit< tt), ((refl, refl), ((refl, refl), (spelled_entry pool _ refl (lit< tt), (spelled_entry pool _ refl (lit< tt), ((refl, refl), ((refl, refl), (spelled_entry pool _ refl (lit< tt), (spelled_entry pool _ refl (lit< tt), ((refl, refl), ((refl, refl), (spelled_entry pool _ refl (lit< tt), (spelled_entry pool _ refl (lit< tt), ((refl, refl), ((refl, refl), (spelled_entry pool _ refl (lit< tt), (spelled_entry pool _ refl (lit< tt), ((refl, refl), ((refl, refl), (refl, (spelled_entry pool _ refl (lit< tt), tt)))))))))))))))))))))))))))))))
 
 pub pool-profile : (m : Module) → IsThinModule m → fits m ≡ true → IsPool (pool_of m)
 pool-profile m t h = record {

@@ -3,11 +3,12 @@ use Rattle.std.proofs.Common.{◌≡◌, ℕ, ◌+◌, ◌*◌, ◌<◌, ◌^◌
 use Rattle.std.proofs.lemmas.List.{length-map}
 use Rattle.std.specs.List.{flat_map}
 use Rattle.std.specs.Result.{OnOk}
+use Rattle.ej_term.specs.TermPrint.{print_atom}
 use Rattle.beam_code.specs.declared.module.Function.{Function}
 use Rattle.beam_code.specs.declared.module.Module.{Module}
 use Rattle.beam_code.specs.Opcode as code
 use Rattle.beam_code.specs.Opcode.{Of}
-use Rattle.beam_code.specs.Accepted.{is_thin_source, is_thin_name}
+use Rattle.beam_code.specs.Accepted.{is_thin_source, is_atom_name}
 use Rattle.erjang_top.specs.ClassFile.{u2, Utf8, StringEntry, constant_bytes}
 use Rattle.erjang_top.specs.Mangle.{class_name}
 use Rattle.erjang_top.specs.ModuleClass.{first_value, fixed_entries, value_entries, values_entries, name_entry, constants, first_name, pool_of}
@@ -17,11 +18,11 @@ use Rattle.erjang_top.specs.declared.values.Value.TheVariants as value
 use Rattle.erjang_top.specs.SeenValues.{seen_value}
 use Rattle.erjang_top.proofs.Appends.{flat_map-append, item-rest, piece, adds, on_ok}
 
-pub atom_plain : (v : Value) (n : Bor (List ℕ)) → v ≡ value.Atom n → is_thin_source (Of (seen_value v)) ≡ true → is_thin_name n.now ≡ true
+pub atom_plain : (v : Value) (n : Bor (List ℕ)) → v ≡ value.Atom n → is_thin_source (Of (seen_value v)) ≡ true → is_atom_name n.now ≡ true
 atom_plain v n e h = ap (λ (w : Value). is_thin_source (Of (seen_value w))) (sym e) ∙ h
 
 -- an atom's entries, with its text
-pub atom_entries : (at : ℕ) (v : Value) (n : Bor (List ℕ)) (bytes : List ℕ) → v ≡ value.Atom n → bytes ≡ n.now
+pub atom_entries : (at : ℕ) (v : Value) (n : Bor (List ℕ)) (bytes : List ℕ) → v ≡ value.Atom n → bytes ≡ print_atom n.now
     → flat_map constant_bytes (StringEntry (at + 1) ∷ Utf8 bytes ∷ []) ≡ flat_map constant_bytes (value_entries at (seen_value v))
 atom_entries at v n bytes e f =
     ap (λ (t : List ℕ). flat_map constant_bytes (StringEntry (at + 1) ∷ Utf8 t ∷ [])) f ∙ ap (λ (w : Value). flat_map constant_bytes (value_entries at (seen_value w))) (sym e)

@@ -11,7 +11,7 @@ use Rattle.ej_world.specs.Agree.{Keeps, SameTurn, Agree, IsScript}
 use Rattle.ej_world.proofs.Runs.{run_same}
 use Rattle.beam_code.specs.declared.module.Module.{Module}
 use Rattle.beam_code.specs.Keys.{is_among}
-use Rattle.beam_code.specs.Accepted.{Accepted, is_thin_name, is_thin_function}
+use Rattle.beam_code.specs.Accepted.{Accepted, is_atom_name, is_thin_function}
 use Rattle.beam_code.specs.Turn as beam_turn
 use Rattle.beam_code.specs.Turn.{beam, end_reason}
 use Rattle.erjang_top.specs.ClassFile.{Class}
@@ -50,7 +50,7 @@ same-turn es reason a b x y = record {
 
 module _ (m : Module) (c : Class) (a : Accepted m) (of : IsOf m c) where
   thin : list_all is_thin_function m.functions ≡ true
-  thin = (and_parts (is_thin_name m.name && nat_lt 0 (length m.functions)) (list_all is_thin_function m.functions) a.plain).1
+  thin = (and_parts (is_atom_name m.name && nat_lt 0 (length m.name)) (list_all is_thin_function m.functions) a.plain).1
 
   abbrev Same : ℕ → ℕ → List ℕ → List ℕ → List Term → Type 0
   Same me n owner name args = SameTurn BothBegun (beam_turn.turn (m ∷ []) me n (beam_turn.Begun (how_of owner name args))) (class_turn.turn (c ∷ []) me n (class_turn.Begun (how_of owner name args)))

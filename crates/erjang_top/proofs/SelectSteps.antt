@@ -5,9 +5,9 @@ use Rattle.std.specs.Option.{unwrap_or}
 use Rattle.std.proofs.lemmas.Bool.Decides.{nat_tests}
 use Rattle.std.proofs.lemmas.List.Sums.{prefix_len-le-length}
 use Rattle.beam_code.specs.declared.instr.Instr.{Instr}
-use Rattle.beam_code.specs.Forms.{opcode}
+use Rattle.beam_code.specs.Opcode.{opcode}
 use Rattle.beam_code.specs.Opcode as code
-use Rattle.beam_code.specs.Opcode.{Opcode, X, Of, Label, Line, FuncInfo, Move, Return, Unknown}
+use Rattle.beam_code.specs.Opcode.{Opcode, X, Of, Label, Line, Comment, FuncInfo, Move, Return, Unknown}
 use Rattle.beam_code.specs.Weights.{same_value}
 use Rattle.erjang_top.specs.ClassFile.{Op, Ldc2W, Invoke, op_bytes}
 use Rattle.erjang_top.specs.ModuleClass.{take_argument, take_arguments, index_of, push_value, push_source, body_ops, registers}
@@ -66,6 +66,7 @@ integer_source values from number again e f =
 goes-on : (values : List code.Value) (o : Opcode) (rest : List Opcode) → goes_on o ≡ true → body_ops values (o ∷ rest) ≡ instr_ops values o ++ body_ops values rest
 goes-on values (Label n) rest e = refl
 goes-on values Line rest e = refl
+goes-on values Comment rest e = refl
 goes-on values (FuncInfo owner name arity) rest e = absurd cc
 goes-on values (Move from to) rest e = refl
 goes-on values Return rest e = absurd cc
@@ -74,6 +75,7 @@ goes-on values Unknown rest e = refl
 stops : (values : List code.Value) (o : Opcode) (rest : List Opcode) → goes_on o ≡ false → body_ops values (o ∷ rest) ≡ instr_ops values o
 stops values (Label n) rest e = absurd cc
 stops values Line rest e = absurd cc
+stops values Comment rest e = absurd cc
 stops values (FuncInfo owner name arity) rest e = refl
 stops values (Move from to) rest e = absurd cc
 stops values Return rest e = refl
@@ -104,6 +106,7 @@ body-last values xs i x start out new lt is off h n =
 registers-one : (o : Opcode) (rest : List Opcode) → registers (o ∷ rest) ≡ max (written_register o) (registers rest)
 registers-one (Label n) rest = omega arith
 registers-one Line rest = omega arith
+registers-one Comment rest = omega arith
 registers-one (FuncInfo owner name arity) rest = omega arith
 registers-one (Move from to) rest = refl
 registers-one Return rest = omega arith

@@ -5,10 +5,10 @@ use Rattle.std.specs.List.{list_all}
 use Rattle.std.proofs.lemmas.Bool.{and_parts}
 use Rattle.beam_code.specs.declared.instr.Instr.{Instr}
 use Rattle.beam_code.specs.declared.module.Function.{Function}
-use Rattle.beam_code.specs.Forms.{opcode}
+use Rattle.beam_code.specs.Opcode.{opcode}
 use Rattle.beam_code.specs.LabelRules.{opcodes}
 use Rattle.beam_code.specs.Opcode.{Opcode}
-use Rattle.beam_code.specs.Accepted.{is_thin_name, is_thin_opcode, is_thin_function, is_count}
+use Rattle.beam_code.specs.Accepted.{is_atom_name, is_thin_opcode, is_thin_function, is_count}
 use Rattle.erjang_top.specs.Flow.{Holding, flows}
 use Rattle.erjang_top.specs.SlotCheck.{defines_label, behind}
 use Rattle.erjang_top.proofs.Dropped.{dropped}
@@ -45,4 +45,4 @@ behind-thin label (i ∷ code) rest e h =
     by false e h go = go e h
 
 pub function-thin : (f : Function) → is_thin_function f ≡ true → list_all is_thin_opcode (opcodes f) ≡ true
-function-thin f h = (and_parts (is_thin_name f.name && nat_le f.arity 255 && is_count f.entry) (list_all is_thin_opcode (opcodes f)) h).1
+function-thin f h = (and_parts (is_atom_name f.name && nat_le f.arity 255 && is_count f.entry) (list_all is_thin_opcode (opcodes f)) h).1

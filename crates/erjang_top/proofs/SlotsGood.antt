@@ -7,7 +7,7 @@ use Rattle.std.proofs.lemmas.Bool.{not-true, and_parts, or_parts, or_right, true
 use Rattle.std.proofs.lemmas.Bool.Decides.{nat_tests}
 use Rattle.beam_code.specs.declared.module.Function.{Function}
 use Rattle.beam_code.specs.LabelRules.{opcodes, defined_label, no_label_twice}
-use Rattle.beam_code.specs.Opcode.{Source, X, Of, Opcode, Label, Line, FuncInfo, Move, Return, Unknown}
+use Rattle.beam_code.specs.Opcode.{Source, X, Of, Opcode, Label, Line, Comment, FuncInfo, Move, Return, Unknown}
 use Rattle.beam_code.specs.Slots.{Undefined, Term, State, BelowKind, Below, Assignment, GoesTo, kind_of, IsMoved, with_x, Walk, entry_state, WellSlotted}
 use Rattle.erjang_top.specs.Flow.{Holding, is_held, with_register, flows}
 use Rattle.erjang_top.specs.SlotCheck.{defines_label, behind, passes, labels_differ}
@@ -21,6 +21,7 @@ abbrev assigned : Holding → List Opcode → Assignment
 assigned held [] label = None
 assigned held (Label n ∷ code) label = if nat_eq n label then Some (state held) else assigned held code label
 assigned held (Line ∷ code) label = assigned held code label
+assigned held (Comment ∷ code) label = assigned held code label
 assigned held (FuncInfo owner name arity ∷ code) label = None
 assigned held (Move from to ∷ code) label = assigned (with_register to held) code label
 assigned held (Return ∷ code) label = None
@@ -50,6 +51,7 @@ eq-itself n = grind (arith, nat_tests)
 agrees-rest : (at given : Assignment) (i : Opcode) (code : List Opcode) → Agrees at given (i ∷ code) → Agrees at given code
 agrees-rest at given (Label n) code a = record { agrees = λ label h. a.agrees label (rw h (or_right (nat_eq label n) true refl)) }
 agrees-rest at given Line code a = record { agrees = a.agrees }
+agrees-rest at given Comment code a = record { agrees = a.agrees }
 agrees-rest at given (FuncInfo owner name arity) code a = record { agrees = a.agrees }
 agrees-rest at given (Move from to) code a = record { agrees = a.agrees }
 agrees-rest at given Return code a = record { agrees = a.agrees }
@@ -62,6 +64,7 @@ walk-none at (Label n ∷ code) a =
     let here : at n ≡ None = a.agrees n (rw eq-itself refl) in
     (tt, subst (λ s. Walk at s code) (sym here) (walk-none at code (agrees-rest at (λ label. None) (Label n) code a)))
 walk-none at (Line ∷ code) a = (tt, walk-none at code (agrees-rest at (λ label. None) Line code a))
+walk-none at (Comment ∷ code) a = (tt, walk-none at code (agrees-rest at (λ label. None) Comment code a))
 walk-none at (FuncInfo owner name arity ∷ code) a = (tt, walk-none at code (agrees-rest at (λ label. None) (FuncInfo owner name arity) code a))
 walk-none at (Move from to ∷ code) a = (tt, walk-none at code (agrees-rest at (λ label. None) (Move from to) code a))
 walk-none at (Return ∷ code) a = (tt, walk-none at code (agrees-rest at (λ label. None) Return code a))
@@ -106,6 +109,7 @@ walk-some at held (Label n ∷ code) d a e =
     let rest = walk-some at held code (and_parts (not (is_label code n)) (no_label_twice (labels code)) d).1 (agrees-behind at held n code absent a) e in
     (subst (λ s. MatchOption s ⊥ (Below (state held))) (sym here) (below-itself held), subst (λ s. Walk at s code) (sym here) rest)
 walk-some at held (Line ∷ code) d a e = (tt, walk-some at held code d (record { agrees = a.agrees }) e)
+walk-some at held (Comment ∷ code) d a e = (tt, walk-some at held code d (record { agrees = a.agrees }) e)
 walk-some at held (FuncInfo owner name arity ∷ code) d a e = (tt, walk-none at code (record { agrees = a.agrees }))
 walk-some at held (Move from to ∷ code) d a e =
     let read = (and_parts (is_held held from) (flows (with_register to held) code) e).0 in
@@ -138,6 +142,7 @@ assigned-none held (Label n ∷ code) label h =
     let p = or_parts (nat_eq label n) (is_label code label) h in
     ap (λ b. if b then Some (state held) else assigned held code label) (flip n label ∙ p.0) ∙ assigned-none held code label p.1
 assigned-none held (Line ∷ code) label h = assigned-none held code label h
+assigned-none held (Comment ∷ code) label h = assigned-none held code label h
 assigned-none held (FuncInfo owner name arity ∷ code) label h = refl
 assigned-none held (Move from to ∷ code) label h = assigned-none (with_register to held) code label h
 assigned-none held (Return ∷ code) label h = refl
@@ -151,6 +156,7 @@ entering-none entry held (Label n ∷ code) label h = by (nat_eq n entry) (enter
     by true rest = assigned-none held (Label n ∷ code) label h
     by false rest = rest
 entering-none entry held (Line ∷ code) label h = entering-none entry held code label h
+entering-none entry held (Comment ∷ code) label h = entering-none entry held code label h
 entering-none entry held (FuncInfo owner name arity ∷ code) label h = entering-none entry held code label h
 entering-none entry held (Move from to ∷ code) label h = entering-none entry held code label h
 entering-none entry held (Return ∷ code) label h = entering-none entry held code label h
@@ -161,6 +167,7 @@ walk-entry : (at : Assignment) (held : Holding) (entry : ℕ) (code : List Opcod
     → option_map_or (flows held) (behind entry code) true ≡ true → Walk at None code
 walk-entry at held entry [] d a e = refl
 walk-entry at held entry (Line ∷ code) d a e = (tt, walk-entry at held entry code d (record { starts = a.starts }) e)
+walk-entry at held entry (Comment ∷ code) d a e = (tt, walk-entry at held entry code d (record { starts = a.starts }) e)
 walk-entry at held entry (FuncInfo owner name arity ∷ code) d a e = (tt, walk-entry at held entry code d (record { starts = a.starts }) e)
 walk-entry at held entry (Move from to ∷ code) d a e = (tt, walk-entry at held entry code d (record { starts = a.starts }) e)
 walk-entry at held entry (Return ∷ code) d a e = (tt, walk-entry at held entry code d (record { starts = a.starts }) e)

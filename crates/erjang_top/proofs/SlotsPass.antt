@@ -5,7 +5,7 @@ use Rattle.std.specs.Option.{option_map_or}
 use Rattle.std.proofs.lemmas.Bool.Decides.{nat_tests}
 use Rattle.beam_code.specs.declared.module.Function.{Function}
 use Rattle.beam_code.specs.LabelRules.{opcodes}
-use Rattle.beam_code.specs.Opcode.{Source, X, Of, Opcode, Label, Line, FuncInfo, Move, Return, Unknown}
+use Rattle.beam_code.specs.Opcode.{Source, X, Of, Opcode, Label, Line, Comment, FuncInfo, Move, Return, Unknown}
 use Rattle.beam_code.specs.Slots.{Kind, Undefined, Term, OptTerm, Tag, Trace, Marker, State, BelowKind, Below, Assignment, kind_of, IsMoved, with_x, after, Walk, entry_state, WellSlotted}
 use Rattle.erjang_top.specs.Flow.{Holding, is_held, with_register, flows}
 use Rattle.erjang_top.specs.SlotCheck.{behind, passes}
@@ -50,6 +50,7 @@ passes-from : (at : Assignment) (held : Holding) (s : State) (code : List Opcode
 passes-from at held s [] k w = absurd (cc)
 passes-from at held s (Label n ∷ code) k w = there held s code at (at n) k w.0 w.1 (λ t kt wt. passes-from at held t code kt wt)
 passes-from at held s (Line ∷ code) k w = passes-from at held s code k w.1
+passes-from at held s (Comment ∷ code) k w = passes-from at held s code k w.1
 passes-from at held s (FuncInfo owner name arity ∷ code) k w = refl
 passes-from at held s (Move from to ∷ code) k w =
     let first = moved-is-read held s from k w.0 in
@@ -62,6 +63,7 @@ passes-from at held s (Unknown ∷ code) k w = absurd w.0
 walk-behind : (at : Assignment) (label : ℕ) (before : Option State) (code rest : List Opcode) → Walk at before code → behind label code ≡ Some rest → Walk at (at label) rest
 walk-behind at label before [] rest w e = absurd (cc)
 walk-behind at label before (Line ∷ code) rest w e = walk-behind at label before code rest w.1 e
+walk-behind at label before (Comment ∷ code) rest w e = walk-behind at label before code rest w.1 e
 walk-behind at label before (FuncInfo owner name arity ∷ code) rest w e = walk-behind at label None code rest w.1 e
 walk-behind at label before (Move from to ∷ code) rest w e = walk-behind at label (after at before (Move from to)) code rest w.1 e
 walk-behind at label before (Return ∷ code) rest w e = walk-behind at label None code rest w.1 e

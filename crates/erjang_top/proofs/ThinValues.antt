@@ -1,5 +1,5 @@
 -- What the parts of a plain module are: its names are plain, and its values fit their entries.
-use Rattle.std.proofs.Common.{T, ◌≡◌, ℕ, ◌≤◌, Bool, true, false, ◌&&◌, nat_lt, nat_le, List, [], ◌∷◌, ◌++◌, length, sym, subst}
+use Rattle.std.proofs.Common.{T, ◌≡◌, ◌≢◌, ℕ, ◌≤◌, Bool, true, false, ◌&&◌, nat_lt, nat_le, List, [], ◌∷◌, ◌++◌, length, sym, subst}
 use Rattle.std.specs.Prelude.{ℤ, pos, negsuc, FitsSigned, fold, if◌then◌else◌}
 use Rattle.std.specs.Int.{w64}
 use Rattle.std.proofs.Math.Facts.{sfits_lit}
@@ -8,8 +8,8 @@ use Rattle.std.proofs.lemmas.Bool.{and_parts, leb-true}
 use Rattle.beam_code.specs.declared.module.Function.{Function}
 use Rattle.beam_code.specs.declared.module.Module.{Module}
 use Rattle.beam_code.specs.LabelRules.{opcodes}
-use Rattle.beam_code.specs.Opcode.{Value, X, Of, Opcode, Label, Line, FuncInfo, Move, Return, Unknown}
-use Rattle.beam_code.specs.Accepted.{is_thin_name, is_count, is_integer, is_thin_source, is_thin_opcode, is_thin_function, is_thin_module, is_register}
+use Rattle.beam_code.specs.Opcode.{Value, X, Of, Opcode, Label, Line, Comment, FuncInfo, Move, Return, Unknown}
+use Rattle.beam_code.specs.Accepted.{is_atom_name, is_count, is_integer, is_thin_source, is_thin_opcode, is_thin_function, is_thin_module, is_register}
 use Rattle.beam_code.specs.Weights.{value_in, values_of, same_value, with_value}
 use Rattle.erjang_top.specs.ModuleClass.{constants, is_entry, behind}
 use Rattle.erjang_top.proofs.NameText.{IsNameText, name_text}
@@ -47,6 +47,7 @@ code-thin : (code : List Opcode) → AllByRecursion (λ i. is_thin_opcode i ≡ 
 code-thin [] all = tt
 code-thin (Label n ∷ code) all = code-thin code all.1
 code-thin (Line ∷ code) all = code-thin code all.1
+code-thin (Comment ∷ code) all = code-thin code all.1
 code-thin (FuncInfo owner name arity ∷ code) all = code-thin code all.1
 code-thin (Move (X n) to ∷ code) all = code-thin code all.1
 code-thin (Move (Of value) to ∷ code) all = ((and_parts (is_thin_source (Of value)) (is_register to) all.0).0, code-thin code all.1)
@@ -62,9 +63,9 @@ pub record IsThinFunction (f : Function) : Type 0 where
 
 pub thin-function : (f : Function) → is_thin_function f ≡ true → IsThinFunction f
 thin-function f h =
-    let a = and_parts (is_thin_name f.name && nat_le f.arity 255 && is_count f.entry) (list_all is_thin_opcode (opcodes f)) h in
-    let b = and_parts (is_thin_name f.name && nat_le f.arity 255) (is_count f.entry) a.0 in
-    let c = and_parts (is_thin_name f.name) (nat_le f.arity 255) b.0 in
+    let a = and_parts (is_atom_name f.name && nat_le f.arity 255 && is_count f.entry) (list_all is_thin_opcode (opcodes f)) h in
+    let b = and_parts (is_atom_name f.name && nat_le f.arity 255) (is_count f.entry) a.0 in
+    let c = and_parts (is_atom_name f.name) (nat_le f.arity 255) b.0 in
     record { name = name_text f.name c.0; arity = leb-true f.arity 255 c.1; code = all-true is_thin_opcode (opcodes f) a.1 }
 
 functions-thin : (fs : List Function) → AllByRecursion IsThinFunction fs → AllByRecursion IsThinValue (flat_map (λ f. filter_map value_in (opcodes f)) fs)
@@ -75,17 +76,22 @@ pub all-functions : (fs : List Function) → list_all is_thin_function fs ≡ tr
 all-functions [] h = tt
 all-functions (f ∷ fs) h = let a = and_parts (is_thin_function f) (list_all is_thin_function fs) h in (thin-function f a.0, all-functions fs a.1)
 
+some : (name : List ℕ) → nat_lt 0 (length name) ≡ true → name ≢ []
+some [] h = absurd cc
+some (c ∷ cs) h = λ e. cc
+
 pub record IsThinModule (m : Module) : Type 0 where
   pub name : IsNameText m.name
+  pub inhabited : m.name ≢ []
   pub functions : AllByRecursion IsThinFunction m.functions
   pub values : AllByRecursion IsThinValue (constants m)
 
 pub thin-module : (m : Module) → is_thin_module m ≡ true → IsThinModule m
 thin-module m h =
-    let a = and_parts (is_thin_name m.name && nat_lt 0 (length m.functions)) (list_all is_thin_function m.functions) h in
-    let b = and_parts (is_thin_name m.name) (nat_lt 0 (length m.functions)) a.0 in
+    let a = and_parts (is_atom_name m.name && nat_lt 0 (length m.name)) (list_all is_thin_function m.functions) h in
+    let b = and_parts (is_atom_name m.name) (nat_lt 0 (length m.name)) a.0 in
     let fs = all-functions m.functions a.1 in
-    record { name = name_text m.name b.0; functions = fs; values = fold-thin (values_of m) [] tt (functions-thin m.functions fs) }
+    record { name = name_text m.name b.0; inhabited = some m.name b.1; functions = fs; values = fold-thin (values_of m) [] tt (functions-thin m.functions fs) }
 
 -- ---- the code behind the entry label
 

@@ -5,15 +5,15 @@ use Rattle.std.specs.FinMap as files
 use Rattle.ej_outside.specs.Counts.{Same, Rises}
 use Rattle.ej_outside.specs.Shelf.{Files, ShelfState, GetsWith, PutsWith, Replaces, MayReplace}
 use Rattle.beam_code.specs.declared.module.Module.{Module}
-use Rattle.erjang_top.specs.declared.compile.Fault.{Fault}
-use Rattle.erjang_top.specs.declared.compile.Fault.TheVariants as fault
-use Rattle.erjang_top.specs.declared.compile.Refusal.TheVariants as refusal
-use Rattle.erjang_top.specs.Answers.{Refusal, Absent, Longer, BadText, TooDeep, NotBuilt, First, Held, Refused, Unchanged, Counted, Compiled, PutFailed, Told, SameCounts, longest_file}
-use Rattle.erjang_top.specs.Thin.{Thin}
+use Rattle.erjang_top.specs.declared.fault.Fault.{Fault}
+use Rattle.erjang_top.specs.declared.fault.Fault.TheVariants as fault
+use Rattle.erjang_top.specs.declared.fault.Refusal.TheVariants as refusal
+use Rattle.erjang_top.specs.Answers.{Refusal, Absent, Longer, BadText, TooDeep, BadForm, OutsideProfile, BadInstruction, Twice, Missing, BadEntry, BadArity, NotBuilt, First, Held, Refused, Unchanged, Counted, Compiled, PutFailed, Told, SameCounts, longest_file}
+use Rattle.erjang_top.specs.Sources.{IsSource}
 use Rattle.erjang_top.specs.Words.{Compile}
 use Rattle.erjang_top.proofs.OneFirst.{one_first}
-use Rattle.erjang_top.proofs.OneModule.{one_module}
-use Rattle.erjang_top.specs.Work.{GetsFault, Builds, IsClassOf, Works}
+use Rattle.erjang_top.proofs.OneSource.{one_module}
+use Rattle.erjang_top.specs.Work.{GetsFault, HasFault, IsClassOf, Works}
 
 -- that the shelf holds these bytes under the source's name, and not too many
 abbrev pub Source : Compile → List ℕ → Files → Type 0
@@ -48,8 +48,8 @@ work_done w old mid new source name class r b p = (
         source = s.0;
         short = s.1;
         module' = b.module';
-        thin = b.thin;
-        only = λ other thin. one_module _ other b.module' thin b.thin;
+        is_source = b.is_source;
+        only = λ other is. one_module _ other b.module' is.0 b.is_source.0;
         class = class;
         emitted = b.emitted;
         stands = ap (λ (n : List ℕ). files.insert held n class) b.named;
@@ -63,11 +63,11 @@ pub work_put_failed : (w : Compile) (old mid new : ShelfState) (source name clas
     → PutFailed w old new
 work_put_failed w old mid new source name class r b p = record {
   accepted = told_map old.held (Source w source) (λ held. First held w None) r.told
-      (λ held s. held_source w source held (λ bytes. (length bytes ≤ longest_file) × (m : Module) × Thin bytes m) s.0 (s.1, b.module', b.thin));
+      (λ held s. held_source w source held (λ bytes. (length bytes ≤ longest_file) × (m : Module) × IsSource bytes m) s.0 (s.1, b.module', b.is_source));
   name = name;
   class = class;
   of_source = told_map old.held (Source w source) _ r.told
-      (λ held s. held_source w source held _ s.0 (b.module', b.thin, b.emitted, b.named));
+      (λ held s. held_source w source held _ s.0 (b.module', b.is_source, b.emitted, b.named));
   contents = let c = p.contents in rw r.contents at c;
   read_faults = p.read_faults ∙ r.read_faults;
   put_faults = let c = p.put_faults in rw r.put_faults at c;
@@ -91,6 +91,13 @@ work_not_got w old new fault.ReadFailed g = record { contents = g.contents; read
 work_not_got w old new fault.NoMemory g = record { contents = g.contents; read_faults = g.read_faults; put_faults = g.put_faults; misses = g.misses; longs = g.longs }
 work_not_got w old new (fault.Refused (refusal.BadText form)) g = absurd g
 work_not_got w old new (fault.Refused (refusal.TooDeep form)) g = absurd g
+work_not_got w old new (fault.Refused (refusal.BadForm form)) g = absurd g
+work_not_got w old new (fault.Refused (refusal.OutsideProfile func index name)) g = absurd g
+work_not_got w old new (fault.Refused (refusal.BadInstruction func index)) g = absurd g
+work_not_got w old new (fault.Refused (refusal.Twice label)) g = absurd g
+work_not_got w old new (fault.Refused (refusal.Missing func index label)) g = absurd g
+work_not_got w old new (fault.Refused (refusal.BadEntry func)) g = absurd g
+work_not_got w old new (fault.Refused (refusal.BadArity func index)) g = absurd g
 work_not_got w old new (fault.Refused refusal.NotBuilt) g = absurd g
 work_not_got w old new fault.PutFailed g = absurd g
 
@@ -109,11 +116,18 @@ refused_source w cause old new source r has counted = record {
 
 -- the source was read, and is built to no class
 pub work_not_built : (w : Compile) (old new : ShelfState) (source : List ℕ) (fault : Fault)
-    → Read w source old new → Builds w.outdir source (Err fault) → Works w old (Err fault) new
+    → Read w source old new → HasFault source fault → Works w old (Err fault) new
 work_not_built w old new source (fault.Refused refusal.Absent) r b = absurd b
 work_not_built w old new source (fault.Refused refusal.Longer) r b = absurd b
 work_not_built w old new source (fault.Refused (refusal.BadText form)) r b = refused_source w (BadText form) old new source r (λ held s. held_source w source held _ s.0 (s.1, b)) (kept w old new source r)
 work_not_built w old new source (fault.Refused (refusal.TooDeep form)) r b = refused_source w (TooDeep form) old new source r (λ held s. held_source w source held _ s.0 (s.1, b)) (kept w old new source r)
+work_not_built w old new source (fault.Refused (refusal.BadForm form)) r b = refused_source w (BadForm form) old new source r (λ held s. held_source w source held _ s.0 (s.1, b)) (kept w old new source r)
+work_not_built w old new source (fault.Refused (refusal.OutsideProfile func index name)) r b = refused_source w (OutsideProfile func index name) old new source r (λ held s. held_source w source held _ s.0 (s.1, b)) (kept w old new source r)
+work_not_built w old new source (fault.Refused (refusal.BadInstruction func index)) r b = refused_source w (BadInstruction func index) old new source r (λ held s. held_source w source held _ s.0 (s.1, b)) (kept w old new source r)
+work_not_built w old new source (fault.Refused (refusal.Twice label)) r b = refused_source w (Twice label) old new source r (λ held s. held_source w source held _ s.0 (s.1, b)) (kept w old new source r)
+work_not_built w old new source (fault.Refused (refusal.Missing func index label)) r b = refused_source w (Missing func index label) old new source r (λ held s. held_source w source held _ s.0 (s.1, b)) (kept w old new source r)
+work_not_built w old new source (fault.Refused (refusal.BadEntry func)) r b = refused_source w (BadEntry func) old new source r (λ held s. held_source w source held _ s.0 (s.1, b)) (kept w old new source r)
+work_not_built w old new source (fault.Refused (refusal.BadArity func index)) r b = refused_source w (BadArity func index) old new source r (λ held s. held_source w source held _ s.0 (s.1, b)) (kept w old new source r)
 work_not_built w old new source (fault.Refused refusal.NotBuilt) r b = refused_source w NotBuilt old new source r (λ held s. held_source w source held _ s.0 (s.1, b)) (kept w old new source r)
 work_not_built w old new source fault.ReadFailed r b = absurd b
 work_not_built w old new source fault.PutFailed r b = absurd b

@@ -1,9 +1,11 @@
 -- What the program answers to each status, what it says, and what stands afterwards.
-use Rattle.std.specs.Prelude.{◌≡◌, ◌≢◌, ℕ, ◌-◌, ◌^◌, ◌<◌, ◌≤◌, ◌⊎◌, List, [], ◌∷◌, ◌++◌, length, take, codes, Option, None, Some, IfSome, IsSomeAnd}
+use Rattle.std.specs.Prelude.{◌≡◌, ◌≢◌, ℕ, ◌-◌, ◌^◌, ◌<◌, ◌≤◌, ◌⊎◌, List, [], ◌∷◌, ◌++◌, length, take, codes, encode_utf8_all, Option, None, Some, IfSome, IsSomeAnd}
 use Rattle.std.specs.Option.{option_map}
 use Rattle.std.specs.FinMap as files
 use Rattle.std.specs.Fmt.{decimal}
 use Rattle.beam_code.specs.declared.module.Module.{Module}
+use Rattle.beam_code.specs.Labels as labels
+use Rattle.asm_module.specs.declared.fault.FormFault.TheVariants as forms
 use Rattle.asm_terms.specs.Forms as text
 use Rattle.asm_terms.specs.Forms.{FirstFault}
 use Rattle.ej_outside.specs.Counts.{Same, Rises}
@@ -11,7 +13,7 @@ use Rattle.ej_outside.specs.Shelf.{Files, ShelfState, MayReplace}
 use Rattle.ej_outside.specs.Sink.{SinkState}
 use Rattle.erjang_top.specs.Emitted.{Emitted}
 use Rattle.erjang_top.specs.Mangle.{mangle}
-use Rattle.erjang_top.specs.Thin.{Thin, IsNotBuilt}
+use Rattle.erjang_top.specs.Sources.{IsSource, HasFormFault, HasBreak, IsNotBuilt}
 use Rattle.erjang_top.specs.Words.{Compile}
 
 -- the most bytes that a source may have
@@ -22,14 +24,42 @@ longest_file = 67108864
 abbrev pub class_file : List ℕ → List ℕ → List ℕ
 class_file outdir module' = outdir ++ codes "/" ++ mangle module' ++ codes ".class"
 
--- the first cause to refuse a source
+-- the first cause to refuse a source; forms, functions and the instructions of one are counted from 0
 pub data Refusal : Type 0 where
   Absent : Refusal
   Longer : Refusal
-  -- that form, counted from 0, is the first that does not read
+  -- that form is the first that does not read
   BadText : (form : ℕ) → Refusal
   TooDeep : (form : ℕ) → Refusal
+  -- that form is out of order, or not of its shape
+  BadForm : (form : ℕ) → Refusal
+  -- an instruction of that name, or of a test or builtin of that name, that is not known
+  OutsideProfile : (func index : ℕ) (name : List ℕ) → Refusal
+  BadInstruction : (func index : ℕ) → Refusal
+  -- that label is defined a second time
+  Twice : (label : ℕ) → Refusal
+  -- the instruction names a label that it may not name
+  Missing : (func index label : ℕ) → Refusal
+  -- the function does not begin as it has to
+  BadEntry : (func : ℕ) → Refusal
+  -- a call or a fun of another arity than what it names
+  BadArity : (func index : ℕ) → Refusal
   NotBuilt : Refusal
+
+-- bytes that are not too many are refused for that cause
+abbrev pub HasCause : List ℕ → Refusal → Type 0
+HasCause bytes Absent = ⊥
+HasCause bytes Longer = ⊥
+HasCause bytes (BadText form) = FirstFault bytes form text.BadText
+HasCause bytes (TooDeep form) = FirstFault bytes form text.TooDeep
+HasCause bytes (BadForm form) = HasFormFault bytes (forms.BadForm form)
+HasCause bytes (OutsideProfile func index name) = HasFormFault bytes (forms.OutsideProfile func index name)
+HasCause bytes (BadInstruction func index) = HasFormFault bytes (forms.BadInstruction func index)
+HasCause bytes (Twice label) = HasBreak bytes (labels.Twice label)
+HasCause bytes (Missing func index label) = HasBreak bytes (labels.Missing func index label)
+HasCause bytes (BadEntry func) = HasBreak bytes (labels.BadEntry func)
+HasCause bytes (BadArity func index) = HasBreak bytes (labels.BadArity func index)
+HasCause bytes NotBuilt = IsNotBuilt bytes
 
 -- the bytes of that file that are held
 abbrev pub Held : Files → Compile → (List ℕ → Type 0) → Type 0
@@ -39,21 +69,30 @@ Held held w P = IsSomeAnd (files.get held w.file) P
 abbrev pub First : Files → Compile → Option Refusal → Type 0
 First held w (Some Absent) = files.get held w.file ≡ None
 First held w (Some Longer) = Held held w (λ bytes. longest_file < length bytes)
-First held w (Some (BadText form)) = Held held w (λ bytes. (length bytes ≤ longest_file) × FirstFault bytes form text.BadText)
-First held w (Some (TooDeep form)) = Held held w (λ bytes. (length bytes ≤ longest_file) × FirstFault bytes form text.TooDeep)
-First held w (Some NotBuilt) = Held held w (λ bytes. (length bytes ≤ longest_file) × IsNotBuilt bytes)
-First held w None = Held held w (λ bytes. (length bytes ≤ longest_file) × (m : Module) × Thin bytes m)
+First held w (Some cause) = Held held w (λ bytes. (length bytes ≤ longest_file) × HasCause bytes cause)
+First held w None = Held held w (λ bytes. (length bytes ≤ longest_file) × (m : Module) × IsSource bytes m)
 
--- what is said of a form
-abbrev pub form_text : ℕ → List ℕ → List ℕ
-form_text form cause = codes ": form " ++ decimal form ++ cause
+-- a number, with what is said before and behind it
+abbrev pub numbered : List ℕ → ℕ → List ℕ → List ℕ
+numbered before n behind = before ++ decimal n ++ behind
+
+-- what is said of an instruction
+abbrev pub instruction_text : ℕ → ℕ → List ℕ → List ℕ
+instruction_text func index cause = numbered (codes ": function ") func [] ++ numbered (codes ", instruction ") index cause
 
 -- what is said of a refusal
 abbrev pub cause_text : Refusal → List ℕ
 cause_text Absent = codes ": absent"
 cause_text Longer = codes ": longer than 67108864 bytes"
-cause_text (BadText form) = form_text form (codes ": bad text")
-cause_text (TooDeep form) = form_text form (codes ": too deep")
+cause_text (BadText form) = numbered (codes ": form ") form (codes ": bad text")
+cause_text (TooDeep form) = numbered (codes ": form ") form (codes ": too deep")
+cause_text (BadForm form) = numbered (codes ": form ") form (codes ": bad form")
+cause_text (OutsideProfile func index name) = instruction_text func index (codes ": ") ++ encode_utf8_all name ++ codes " outside the profile"
+cause_text (BadInstruction func index) = instruction_text func index (codes ": bad instruction")
+cause_text (Twice label) = numbered (codes ": label ") label (codes ": defined twice")
+cause_text (Missing func index label) = instruction_text func index (codes ": label ") ++ numbered [] label (codes " missing")
+cause_text (BadEntry func) = numbered (codes ": function ") func (codes ": bad entry")
+cause_text (BadArity func index) = instruction_text func index (codes ": bad arity")
 cause_text NotBuilt = codes ": not built"
 
 -- a message about a file, with its newline
@@ -87,9 +126,7 @@ pub record Unchanged (old new : ShelfState) (Reads Misses Longs : ℕ → ℕ �
 abbrev pub Counted : Refusal → ShelfState → ShelfState → Type 0
 Counted Absent old new = Unchanged old new Same Rises Same
 Counted Longer old new = Unchanged old new Same Same Rises
-Counted (BadText form) old new = Unchanged old new Same Same Same
-Counted (TooDeep form) old new = Unchanged old new Same Same Same
-Counted NotBuilt old new = Unchanged old new Same Same Same
+Counted cause old new = Unchanged old new Same Same Same
 
 -- the source is refused for that cause
 pub record Refused (w : Compile) (cause : Refusal) (old new : ShelfState) : Type 0 where
@@ -104,9 +141,9 @@ pub record Compiled (w : Compile) (held : Files) (new : Files) : Type 0 where
   pub source : files.get held w.file ≡ Some bytes
   pub short : length bytes ≤ longest_file
   pub module' : Module
-  pub thin : Thin bytes module'
+  pub is_source : IsSource bytes module'
   -- and they are the source of no other module
-  pub only : (other : Module) → Thin bytes other → other ≡ module'
+  pub only : (other : Module) → IsSource bytes other → other ≡ module'
   pub class : List ℕ
   pub emitted : Emitted module' class
   pub stands : new ≡ files.insert held (class_file w.outdir module'.name) class
@@ -126,7 +163,7 @@ pub record PutFailed (w : Compile) (old new : ShelfState) : Type 0 where
   pub accepted : IfSome old.held (λ held. First held w None)
   pub name : List ℕ
   pub class : List ℕ
-  pub of_source : IfSome old.held (λ held. Held held w (λ bytes. (m : Module) × Thin bytes m × Emitted m class × (name ≡ class_file w.outdir m.name)))
+  pub of_source : IfSome old.held (λ held. Held held w (λ bytes. (m : Module) × IsSource bytes m × Emitted m class × (name ≡ class_file w.outdir m.name)))
   pub contents : MayReplace old.held name class new.held
   pub read_faults : Same old.read_faults new.read_faults
   pub put_faults : Rises old.put_faults new.put_faults

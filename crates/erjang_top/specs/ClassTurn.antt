@@ -8,6 +8,8 @@ use Rattle.ej_term.specs.declared.class.Class3.TheVariants.{Error, Exit, Throw}
 use Rattle.ej_term.specs.Atoms.{is_plain}
 use Rattle.ej_term.specs.Term.{Term, Atom, Nil}
 use Rattle.ej_term.specs.Term as term
+use Rattle.ej_term.specs.TermPrint.{print_atom}
+use Rattle.asm_terms.specs.Quotes.{quoted}
 use Rattle.ej_world.specs.World.{Begin, Call, Event, Raise, Answer, Fault}
 use Rattle.ej_world.specs.Run.{Outcome, Runs, Waits, Ended, Turned, Code}
 use Rattle.beam_code.specs.Turn.{list_of, end_reason}
@@ -106,9 +108,26 @@ abbrev pub integer : List Value → Held → Called
 integer (Long n ∷ Top ∷ []) held = Gave held (Some (OfTerm (term.Int n)))
 integer _ held = Faulted
 
--- the term with that canonical print, of the atoms without quotes and nil; no other print is read so far
+-- what stands between quotes, with nothing behind them
+abbrev pub whole : Option (List ℕ × List ℕ) → Option (List ℕ)
+whole (Some (name, [])) = Some name
+whole _ = None
+
+-- the atom that a text spells between single quotes
+abbrev pub quoted_atom : List ℕ → Option (List ℕ)
+quoted_atom [] = None
+quoted_atom (c ∷ cs) = if nat_eq c 39 then whole (quoted 39 cs) else None
+
+-- the atom of that name, where the text is its print
+abbrev pub printed_as : List ℕ → List ℕ → Option Term
+printed_as text name = if bytes_eq (print_atom name) text then Some (Atom name) else None
+
+-- the term with that canonical print, of atoms and nil; no other print is read so far
 abbrev pub term_printed : List ℕ → Option Term
-term_printed text = if is_plain text then Some (Atom text) else if bytes_eq text (codes "[]") then Some Nil else None
+term_printed text =
+    if is_plain text then Some (Atom text)
+    else if bytes_eq text (codes "[]") then Some Nil
+    else option_and_then (printed_as text) (quoted_atom text)
 
 abbrev pub literal : Held → Option Term → Called
 literal held None = Faulted

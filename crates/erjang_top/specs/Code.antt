@@ -14,6 +14,7 @@ seen_source source.Nil = opcode.Of opcode.Nil
 abbrev pub seen_code : Code → opcode.Opcode
 seen_code (code.Label n) = opcode.Label n
 seen_code code.Line = opcode.Line
+seen_code code.Comment = opcode.Comment
 seen_code (code.FuncInfo owner name arity) = opcode.FuncInfo owner.now name.now arity
 seen_code (code.Move from to) = opcode.Move (seen_source from) to
 seen_code code.Return = opcode.Return

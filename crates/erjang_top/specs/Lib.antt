@@ -4,8 +4,7 @@ pub mod ClassProfile
 pub mod Typing
 pub mod Linking
 pub mod Emitted
-pub mod Thin
-pub mod Source
+pub mod Sources
 pub mod Words
 pub mod Answers
 pub mod Work
@@ -15,11 +14,9 @@ pub mod Worked
 pub mod Flow
 pub mod ModuleClass
 pub mod Code
-pub mod SeenKeys
-pub mod LabelChecks
 pub mod SeenValues
 pub mod SlotCheck
 pub mod Written
 pub mod SeenExports
 pub mod Select
-pub mod Rows
+pub mod Ranges

@@ -1,6 +1,7 @@
 -- The class that a module is compiled to.
 use Rattle.std.specs.Prelude.{ℕ, zero, suc, pos, Bool, false, ◌+◌, ◌*◌, nat_eq, nat_lt, nat_le, max, if◌then◌else◌, List, [], ◌∷◌, ◌++◌, length, map, codes, None}
 use Rattle.std.specs.List.{position_or_len}
+use Rattle.ej_term.specs.TermPrint.{print_atom}
 use Rattle.beam_code.specs.declared.module.Function.{Function}
 use Rattle.beam_code.specs.declared.module.Module.{Module}
 use Rattle.beam_code.specs.LabelRules.{opcodes}
@@ -54,10 +55,10 @@ fixed_entries class =
 abbrev pub first_value : ℕ
 first_value = 31
 
--- a value's two entries, from this index on
+-- a value's two entries, from this index on; an atom and nil have their canonical prints
 abbrev pub value_entries : ℕ → Value → List Constant
 value_entries at (Integer number) = Long number ∷ Gap ∷ []
-value_entries at (Atom name) = StringEntry (at + 1) ∷ Utf8 name ∷ []
+value_entries at (Atom name) = StringEntry (at + 1) ∷ Utf8 (print_atom name) ∷ []
 value_entries at Nil = StringEntry (at + 1) ∷ Utf8 (codes "[]") ∷ []
 
 abbrev pub values_entries : ℕ → List Value → List Constant

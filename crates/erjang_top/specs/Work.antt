@@ -2,24 +2,26 @@
 use Rattle.std.specs.Prelude.{◌≡◌, ℕ, ◌<◌, ◌≤◌, List, [], ◌∷◌, ◌++◌, length, codes, None, Some, Result, Ok, Err, IsSomeAnd, string_bytes}
 use Rattle.std.specs.FinMap as files
 use Rattle.beam_code.specs.declared.module.Module.{Module}
-use Rattle.asm_terms.specs.Forms as text
-use Rattle.asm_terms.specs.Forms.{FirstFault}
 use Rattle.asm_terms.specs.declared.fault.TextFault.{TextFault}
 use Rattle.asm_terms.specs.declared.fault.TextFault.TheVariants as text_fault
+use Rattle.asm_module.specs.declared.fault.FormFault.{FormFault}
+use Rattle.asm_module.specs.declared.fault.FormFault.TheVariants as form_fault
+use Rattle.label_check.specs.declared.fault.LabelFault.{LabelFault}
+use Rattle.label_check.specs.declared.fault.LabelFault.TheVariants as label_fault
 use Rattle.ej_outside.specs.Counts.{Same, Rises}
 use Rattle.ej_outside.specs.Shelf.{ShelfState, GetsWith}
 use Rattle.ej_outside.specs.Sink.{SinkState}
 use Rattle.ej_outside.specs.declared.fault.Failed as failed
 use Rattle.std.specs.declared.vec.Vec.{Vec}
-use Rattle.erjang_top.specs.declared.compile.Fault.{Fault}
-use Rattle.erjang_top.specs.declared.compile.Fault.TheVariants as fault
-use Rattle.erjang_top.specs.declared.compile.Refusal as code
-use Rattle.erjang_top.specs.declared.compile.Refusal.TheVariants as refusal
+use Rattle.erjang_top.specs.declared.fault.Fault.{Fault}
+use Rattle.erjang_top.specs.declared.fault.Fault.TheVariants as fault
+use Rattle.erjang_top.specs.declared.fault.Refusal as code
+use Rattle.erjang_top.specs.declared.fault.Refusal.TheVariants as refusal
 use Rattle.erjang_top.specs.declared.compile.ReadyClass.{ReadyClass}
 use Rattle.erjang_top.specs.declared.words.CompileWords.{CompileWords}
-use Rattle.erjang_top.specs.Answers.{Refusal, Absent, Longer, BadText, TooDeep, NotBuilt, Refused, Unchanged, Compiled, PutFailed, Told, SameCounts, TookAll, TookFront, Says, cause_text, class_file, longest_file}
+use Rattle.erjang_top.specs.Answers.{Refusal, Absent, Longer, BadText, TooDeep, BadForm, OutsideProfile, BadInstruction, Twice, Missing, BadEntry, BadArity, NotBuilt, HasCause, Refused, Unchanged, Compiled, PutFailed, Told, SameCounts, TookAll, TookFront, Says, cause_text, class_file, longest_file}
 use Rattle.erjang_top.specs.Emitted.{Emitted}
-use Rattle.erjang_top.specs.Thin.{Thin, IsNotBuilt}
+use Rattle.erjang_top.specs.Sources.{IsSource}
 use Rattle.erjang_top.specs.Words.{Compile}
 
 -- the words that a command's own hold
@@ -32,13 +34,35 @@ refusal_of refusal.Absent = Absent
 refusal_of refusal.Longer = Longer
 refusal_of (refusal.BadText form) = BadText form
 refusal_of (refusal.TooDeep form) = TooDeep form
+refusal_of (refusal.BadForm form) = BadForm form
+refusal_of (refusal.OutsideProfile func index name) = OutsideProfile func index name
+refusal_of (refusal.BadInstruction func index) = BadInstruction func index
+refusal_of (refusal.Twice label) = Twice label
+refusal_of (refusal.Missing func index label) = Missing func index label
+refusal_of (refusal.BadEntry func) = BadEntry func
+refusal_of (refusal.BadArity func index) = BadArity func index
 refusal_of refusal.NotBuilt = NotBuilt
 
 -- a fault of a text, as one of the work
-abbrev pub fault_of : TextFault → Fault
-fault_of (text_fault.BadText form) = fault.Refused (refusal.BadText form)
-fault_of (text_fault.TooDeep form) = fault.Refused (refusal.TooDeep form)
-fault_of text_fault.NoMemory = fault.NoMemory
+abbrev pub fault_of_text : TextFault → Fault
+fault_of_text (text_fault.BadText form) = fault.Refused (refusal.BadText form)
+fault_of_text (text_fault.TooDeep form) = fault.Refused (refusal.TooDeep form)
+fault_of_text text_fault.NoMemory = fault.NoMemory
+
+-- a fault of forms
+abbrev pub fault_of_forms : FormFault → Fault
+fault_of_forms (form_fault.BadForm form) = fault.Refused (refusal.BadForm form)
+fault_of_forms (form_fault.OutsideProfile func index name) = fault.Refused (refusal.OutsideProfile func index name)
+fault_of_forms (form_fault.BadInstruction func index) = fault.Refused (refusal.BadInstruction func index)
+fault_of_forms form_fault.NoMemory = fault.NoMemory
+
+-- a break of a label rule
+abbrev pub fault_of_labels : LabelFault → Fault
+fault_of_labels (label_fault.Twice label) = fault.Refused (refusal.Twice label)
+fault_of_labels (label_fault.Missing func index label) = fault.Refused (refusal.Missing func index label)
+fault_of_labels (label_fault.BadEntry func) = fault.Refused (refusal.BadEntry func)
+fault_of_labels (label_fault.BadArity func index) = fault.Refused (refusal.BadArity func index)
+fault_of_labels (label_fault.NoMemory e) = fault.NoMemory
 
 -- the first fault of a source that is not read
 abbrev pub GetsFault : List ℕ → ShelfState → Fault → ShelfState → Type 0
@@ -57,21 +81,26 @@ GetsSource file old (Err fault) new = GetsFault file old fault new
 -- the class of a source, and the name of its file
 pub record IsClassOf (outdir source name class : List ℕ) : Type 0 where
   pub module' : Module
-  pub thin : Thin source module'
+  pub is_source : IsSource source module'
   pub emitted : Emitted module' class
   pub named : name ≡ class_file outdir module'.name
 
--- what a source is built to: its class, or that it is refused, or that memory was wanting
+-- why a source of these bytes has no class: its cause, or that memory was wanting
+abbrev pub HasFault : List ℕ → Fault → Type 0
+HasFault source (fault.Refused cause) = HasCause source (refusal_of cause)
+HasFault source fault.ReadFailed = ⊥
+HasFault source fault.PutFailed = ⊥
+HasFault source fault.NoMemory = Unit {0}
+
+-- the module whose source the bytes are, or why there is none
+abbrev pub ReadsSource : List ℕ → Result Module Fault → Type 0
+ReadsSource source (Ok m) = IsSource source m
+ReadsSource source (Err fault) = HasFault source fault
+
+-- what a source is built to: its class, or why it has none
 abbrev pub Builds : List ℕ → List ℕ → Result ReadyClass Fault → Type 0
 Builds outdir source (Ok class) = IsClassOf outdir source (string_bytes class.name) class.bytes.items
-Builds outdir source (Err (fault.Refused (refusal.BadText form))) = FirstFault source form text.BadText
-Builds outdir source (Err (fault.Refused (refusal.TooDeep form))) = FirstFault source form text.TooDeep
-Builds outdir source (Err (fault.Refused refusal.NotBuilt)) = IsNotBuilt source
-Builds outdir source (Err (fault.Refused refusal.Absent)) = ⊥
-Builds outdir source (Err (fault.Refused refusal.Longer)) = ⊥
-Builds outdir source (Err fault.ReadFailed) = ⊥
-Builds outdir source (Err fault.PutFailed) = ⊥
-Builds outdir source (Err fault.NoMemory) = Unit {0}
+Builds outdir source (Err fault) = HasFault source fault
 
 -- what the work leaves on the shelf
 abbrev pub Works : Compile → ShelfState → Result (Unit {0}) Fault → ShelfState → Type 0

@@ -1,7 +1,7 @@
 //! An instruction by its row.
 
 ghost use Rattle.std.specs.Prelude.{◌≡◌, option_map};
-ghost use Rattle.beam_code.specs.Forms.{opcode};
+ghost use Rattle.beam_code.specs.Opcode.{opcode};
 ghost use Rattle.beam_code.specs.Opcode.{label_of, func_info_of, move_of, move_to as move_of_source, source_of, without_operands};
 ghost use Rattle.erjang_top.specs.Code.{seen_code, seen_source};
 
@@ -22,6 +22,7 @@ pub enum Source<'a> {
 pub enum Code<'a> {
     Label(u32),
     Line,
+    Comment,
     FuncInfo {
         owner: &'a Text,
         name: &'a Text,
@@ -44,6 +45,7 @@ pub fn decode(instr: &Instr) -> Code<'_>
     match instr.row {
         rows::LABEL => decode_label(operands),
         rows::LINE => decode_alone(Code::Line, operands),
+        rows::COMMENT => decode_alone(Code::Comment, operands),
         rows::FUNC_INFO => decode_func_info(operands),
         rows::MOVE => decode_move(operands),
         rows::RETURN => decode_alone(Code::Return, operands),

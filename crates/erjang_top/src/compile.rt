@@ -5,70 +5,16 @@ ghost use Rattle.erjang_top.specs.Answers.{class_file};
 ghost use Rattle.erjang_top.specs.Work.{GetsSource, Builds, Works, seen_words};
 
 use crate::emit::emit;
+use crate::fault::{Fault, Refusal};
 use crate::mangle::mangle;
-use crate::source::read_thin;
+use crate::source::read_source;
 use crate::words::CompileWords;
-use asm_terms::TextFault;
 use ej_outside::{Failed, Got, Shelf, ShelfFault};
 use ej_term::Text;
 use std::alloc::{AllocError, Global};
 
 /// The most bytes that a source may have.
 const LONGEST_FILE: u64 = 67108864;
-
-/// Why a source is refused.
-#[derive(Clone, Copy)]
-pub(crate) enum Refusal {
-    /// There is no file of that name.
-    Absent,
-    /// There is one, with too many bytes.
-    Longer,
-    /// That form of its text does not read.
-    BadText { form: usize },
-    /// That form of its text has more than 256 tuples, lists and maps open at some place.
-    TooDeep { form: usize },
-    /// Its forms are those of no module that is compiled.
-    NotBuilt,
-}
-
-/// Why no class was put.
-#[derive(Clone, Copy)]
-pub(crate) enum Fault {
-    /// The source is refused.
-    Refused(Refusal),
-    /// The source could not be read.
-    ReadFailed,
-    /// The class could not be put.
-    PutFailed,
-    /// Memory was wanting.
-    NoMemory,
-}
-
-impl From<AllocError> for Fault {
-    ghost use Rattle.std.specs.Prelude.{◌≡◌};
-    ghost use Rattle.erjang_top.specs.declared.compile.Fault.TheVariants.{NoMemory};
-
-    ghost from_gives = { λ _ fault. fault ≡ NoMemory };
-
-    fn from(_: AllocError) -> Fault {
-        Fault::NoMemory
-    }
-}
-
-impl From<TextFault> for Fault {
-    ghost use Rattle.std.specs.Prelude.{◌≡◌};
-    ghost use Rattle.erjang_top.specs.Work.{fault_of};
-
-    ghost from_gives = { λ text fault. fault ≡ fault_of text };
-
-    fn from(text: TextFault) -> Fault {
-        match text {
-            TextFault::BadText { form } => Fault::Refused(Refusal::BadText { form }),
-            TextFault::TooDeep { form } => Fault::Refused(Refusal::TooDeep { form }),
-            TextFault::NoMemory => Fault::NoMemory,
-        }
-    }
-}
 
 /// A class that is ready to be put: the name of its file, and its bytes.
 #[derive(Drop)]
@@ -113,9 +59,7 @@ fn class_file_name(alloc: Global, outdir: &str, name: &Text) -> Result<String, A
 fn build(alloc: Global, outdir: &str, source: &[u8]) -> Result<ReadyClass, Fault>
     ensures { Builds outdir.now source.now result }
 {
-    let Some(module) = read_thin(alloc, source)? else {
-        return Err(Fault::Refused(Refusal::NotBuilt));
-    };
+    let module = read_source(alloc, source)?;
     let bytes = emit(alloc, &module)?;
     let name = class_file_name(alloc, outdir, &module.name)?;
     Ok(ReadyClass { name, bytes })

@@ -4,6 +4,7 @@ ghost use Rattle.std.specs.Prelude.{IfOk};
 ghost use Rattle.beam_code.specs.Accepted.{Accepted};
 ghost use Rattle.erjang_top.specs.Emitted.{Emitted};
 
+mod atom;
 mod bytes;
 mod class;
 mod constant;

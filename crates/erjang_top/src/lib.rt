@@ -5,6 +5,10 @@ mod accept;
 mod code;
 mod compile;
 mod emit;
+mod fault;
+#[cfg(test)]
+mod instruction_cases;
+mod laws;
 mod mangle;
 mod program;
 mod report;
@@ -15,5 +19,6 @@ mod tests;
 mod values;
 mod words;
 
+pub use laws::read_modules_are_in_range;
 pub use program::erjang;
 pub use scripts::worked_runs;

@@ -14,16 +14,30 @@ use std::alloc::Global;
 ///
 /// `compile OUTDIR FILE`, with no empty word, puts the class of the source FILE under `OUTDIR/NAME.class`, where
 /// NAME is the mangled name of its module. It takes all its memory before the put, and writes nothing on `out`.
-/// K is the count of whole forms before the first one that does not read.
 ///
 /// | Status | Cause | Line on `err` |
 /// |---|---|---|
 /// | 0 | the class stands | none |
-/// | 1 | FILE is refused | `FILE: absent`, `FILE: longer than 67108864 bytes`, `FILE: form K: bad text`, `FILE: form K: too deep` or `FILE: not built` |
+/// | 1 | FILE is refused | `FILE: ` and the first cause |
 /// | 2 | other words | how the program is used |
 /// | 3 | FILE could not be read | `FILE: read failed` |
 /// | 4 | the put failed, or a write on `err` | none, or a front of one of those |
 /// | 5 | memory was wanting | none |
+///
+/// | First cause | When |
+/// |---|---|
+/// | `absent`, `longer than 67108864 bytes` | there is no such file, or it is too long |
+/// | `form K: bad text`, `form K: too deep` | form K is the first that does not read |
+/// | `form K: bad form` | form K is out of order, or not of its shape |
+/// | `function F, instruction I: WORD outside the profile` | an instruction, a test or a builtin of that name that is not known |
+/// | `function F, instruction I: bad instruction` | the form is no instruction |
+/// | `label L: defined twice` | the module defines L a second time |
+/// | `function F, instruction I: label L missing` | the instruction may not name L |
+/// | `function F: bad entry` | the function does not begin as it has to |
+/// | `function F, instruction I: bad arity` | a call or a fun of another arity than what it names |
+/// | `not built` | the module is none that is compiled so far |
+///
+/// Forms, functions and the instructions of one count from 0; WORD is in UTF-8.
 pub fn erjang<S: Shelf, O: Sink, E: Sink>(
     alloc: Global,
     words: &[String],

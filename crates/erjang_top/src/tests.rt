@@ -23,6 +23,13 @@ const EDGE_SOURCE: &[u8] =
 const EDGE_CLASS: &[u8] =
     b"\xca\xfe\xba\xbe\x00\x00\x002\x00.\x01\x00\x0berl/m/a$40b\x07\x00\x01\x01\x00\x10java/lang/Object\x07\x00\x03\x01\x00\x0e(Lerl/Proc;I)I\x01\x00\x04Code\x01\x00\x06erl/Rt\x07\x00\x07\x01\x00\x04take\x01\x00\x17(Lerl/Proc;I)Lerl/Term;\x0c\x00\x09\x00\n\n\x00\x08\x00\x0b\x01\x00\x04give\x01\x00\x17(Lerl/Proc;Lerl/Term;)V\x0c\x00\x0d\x00\x0e\n\x00\x08\x00\x0f\x01\x00\x05raise\x01\x00\x18(Lerl/Proc;ILerl/Term;)V\x0c\x00\x11\x00\x12\n\x00\x08\x00\x13\x01\x00\x07integer\x01\x00\x0d(J)Lerl/Term;\x0c\x00\x15\x00\x16\n\x00\x08\x00\x17\x01\x00\x03lit\x01\x00\x1e(Ljava/lang/String;)Lerl/Term;\x0c\x00\x19\x00\x1a\n\x00\x08\x00\x1b\x08\x00\x1e\x01\x00\x0ffunction_clause\x08\x00 \x01\x00\x02[]\x05\x80\x00\x00\x00\x00\x00\x00\x00\x05\x7f\xff\xff\xff\xff\xff\xff\xff\x05\xff\xff\xff\xff\xff\xff\xff\xff\x05\x00\x00\x00\x00\x00\x00\x00\x00\x08\x00*\x01\x00\x01f\x01\x00\x04f__2\x01\x00\x04g__0\x01\x00\nf_G9$40__8\x00!\x00\x02\x00\x04\x00\x00\x00\x00\x00\x03\x00\x09\x00+\x00\x05\x00\x01\x00\x06\x00\x00\x00)\x00\x03\x04\x02\x00\x00\x00\x1d*\x03\xb8\x00\x0cM*\x04\xb8\x00\x0cN-\xc4:\x04\x01\xc4\x19\x04\x01M*,\xb8\x00\x10\x03\xac\x00\x00\x00\x00\x00\x09\x00,\x00\x05\x00\x01\x00\x06\x00\x00\x00X\x00\x03\x01\x02\x00\x00\x00L\x14\x00!\xb8\x00\x18M\x14\x00#\xb8\x00\x18N\x14\x00%\xb8\x00\x18:\x04\x14\x00'\xb8\x00\x18:\xff\x13\x00)\xb8\x00\x1c\xc4:\x01\x00\x14\x00%\xb8\x00\x18:\x05\x19\xff:\xff\x13\x00\x1f\xb8\x00\x1c\xc4:\x01\x01\x13\x00)\xb8\x00\x1cN*,\xb8\x00\x10\x03\xac\x00\x00\x00\x00\x00\n\x00-\x00\x05\x00\x01\x00\x06\x00\x00\x00S\x00\x03\x00\n\x00\x00\x00G*\x03\xb8\x00\x0cM*\x04\xb8\x00\x0cN*\x05\xb8\x00\x0c:\x04*\x06\xb8\x00\x0c:\x05*\x07\xb8\x00\x0c:\x06*\x08\xb8\x00\x0c:\x07*\x11\x00\x06\xb8\x00\x0c:\x08*\x11\x00\x07\xb8\x00\x0c:\x09*\x03\x13\x00\x1d\xb8\x00\x1c\xb8\x00\x14\x07\xac\x00\x00\x00\x00\x00\x00";
 
+// A source of names that need quotes, and its class, spelled by another program.
+const QUOTED_SOURCE: &str =
+    "{module,'A €'}.\n{exports,[{'b\\'c',0},{'',1}]}.\n{attributes,[]}.\n{labels,5}.\n{function,'b\\'c',0,2}.\n{label,1}.\n{func_info,{atom,'A €'},{atom,'b\\'c'},0}.\n{label,2}.\n{move,{atom,'é\\\\'},{x,0}}.\n{move,{atom,''},{x,1}}.\n{move,{atom,'end'},{x,2}}.\n{move,{atom,'[]'},{x,3}}.\n{move,nil,{x,4}}.\nreturn.\n{function,'',1,4}.\n{label,3}.\n{func_info,{atom,'A €'},{atom,''},1}.\n{label,4}.\nreturn.\n";
+
+const QUOTED_CLASS: &[u8] =
+    b"\xca\xfe\xba\xbe\x00\x00\x002\x00+\x01\x00\x13erl/m/A$20$E2$82$AC\x07\x00\x01\x01\x00\x10java/lang/Object\x07\x00\x03\x01\x00\x0e(Lerl/Proc;I)I\x01\x00\x04Code\x01\x00\x06erl/Rt\x07\x00\x07\x01\x00\x04take\x01\x00\x17(Lerl/Proc;I)Lerl/Term;\x0c\x00\x09\x00\n\n\x00\x08\x00\x0b\x01\x00\x04give\x01\x00\x17(Lerl/Proc;Lerl/Term;)V\x0c\x00\x0d\x00\x0e\n\x00\x08\x00\x0f\x01\x00\x05raise\x01\x00\x18(Lerl/Proc;ILerl/Term;)V\x0c\x00\x11\x00\x12\n\x00\x08\x00\x13\x01\x00\x07integer\x01\x00\x0d(J)Lerl/Term;\x0c\x00\x15\x00\x16\n\x00\x08\x00\x17\x01\x00\x03lit\x01\x00\x1e(Ljava/lang/String;)Lerl/Term;\x0c\x00\x19\x00\x1a\n\x00\x08\x00\x1b\x08\x00\x1e\x01\x00\x0ffunction_clause\x08\x00 \x01\x00\n'\\x{E9}\\\\'\x08\x00\"\x01\x00\x02''\x08\x00$\x01\x00\x05'end'\x08\x00&\x01\x00\x04'[]'\x08\x00(\x01\x00\x02[]\x01\x00\x08b$27c__0\x01\x00\x03__1\x00!\x00\x02\x00\x04\x00\x00\x00\x00\x00\x02\x00\x09\x00)\x00\x05\x00\x01\x00\x06\x00\x00\x009\x00\x03\x00\x07\x00\x00\x00-\x13\x00\x1f\xb8\x00\x1cM\x13\x00!\xb8\x00\x1cN\x13\x00#\xb8\x00\x1c:\x04\x13\x00%\xb8\x00\x1c:\x05\x13\x00'\xb8\x00\x1c:\x06*,\xb8\x00\x10\x03\xac\x00\x00\x00\x00\x00\x09\x00*\x00\x05\x00\x01\x00\x06\x00\x00\x00\x19\x00\x03\x00\x03\x00\x00\x00\x0d*\x03\xb8\x00\x0cM*,\xb8\x00\x10\x03\xac\x00\x00\x00\x00\x00\x00";
+
 const USAGE: &[u8] =
     b"usage: erjang compile OUTDIR FILE... | beam SCRIPT FILE... | run SCRIPT CLASS... | verify CLASS... | sample N\n";
 
@@ -93,6 +100,20 @@ fn compiles_names_and_numbers_at_their_edges(rt: HostRuntime) -> Result<(), Fail
     Ok(())
 }
 
+#[test]
+fn compiles_names_in_quotes(rt: HostRuntime) -> Result<(), Fail> {
+    let alloc = rt.alloc();
+    let ran = run(
+        alloc,
+        &["compile", "o", NAME],
+        QUOTED_SOURCE.as_bytes(),
+        Vec::new(alloc),
+    )?;
+    assert_eq!(rt; ran.status, 0);
+    assert_eq!(rt; ran.shelf.held("o/A$20$E2$82$AC.class"), Some(QUOTED_CLASS));
+    Ok(())
+}
+
 // One call that ends otherwise: its words, its source, and the status and the line that it is to end with.
 fn expect_line(
     rt: &(impl Abort + AllocGlobal),
@@ -156,33 +177,48 @@ fn compiles_the_plainest_source_in_other_ways(rt: HostRuntime) -> Result<(), Fai
     Ok(())
 }
 
+// Sources, one a line, and what is said of each.
+const FAULTS: &str = r#" ==> form 0: bad form
+% nothing ==> form 0: bad form
+{module,m}. ==> form 1: bad form
+{module,m}. {exports,[]}. {attributes,[]}. {labels,3}. ==> form 4: bad form
+{module,m}. {exports,[{g,1}]}. {attributes,[]}. {labels,3}. {function,f,1,2}. {label,1}. {func_info,{atom,m},{atom,f},1}. {label,2}. return. ==> form 1: bad form
+{module,m}. {exports,[{f,2}]}. {attributes,[]}. {labels,3}. {function,f,1,2}. {label,1}. {func_info,{atom,m},{atom,f},1}. {label,2}. return. ==> form 1: bad form
+{module,m}. {exports,[]}. {attributes,[]}. {labels,3}. {function,f,1,2}. {label,1}. {func_info,{atom,m},{atom,f},1}. {label,2}. return. {function,f,1,4}. {label,3}. {func_info,{atom,m},{atom,f},1}. {label,4}. return. ==> form 9: bad form
+{module,m}. {exports,[{f,1}]}. {attributes,[]}. {labels,99999999999999999999}. {function,f,1,2}. {label,1}. {func_info,{atom,m},{atom,f},1}. {label,2}. return. ==> form 3: bad form
+{module,m}. {exports,[{f,256}]}. {attributes,[]}. {labels,3}. {function,f,256,2}. {label,1}. {func_info,{atom,m},{atom,f},256}. {label,2}. return. ==> form 1: bad form
+{module,m}. {exports,[{f,1}]}. {attributes,[]}. {labels,3}. {function,f,1,2}. {label,2}. {func_info,{atom,m},{atom,f},1}. {label,2}. return. ==> label 2: defined twice
+{module,m}. {exports,[]}. {attributes,[]}. {labels,3}. {function,f,1,2}. {label,1}. {func_info,{atom,m},{atom,f},1}. {label,2}. return. {function,g,1,3}. {label,1}. {func_info,{atom,m},{atom,g},1}. {label,3}. return. ==> label 1: defined twice
+{module,m}. {exports,[{f,1}]}. {attributes,[]}. {labels,3}. {function,f,1,3}. {label,1}. {func_info,{atom,m},{atom,f},1}. {label,2}. return. ==> function 0: bad entry
+{module,m}. {exports,[]}. {attributes,[]}. {labels,3}. {function,f,1,2}. {label,1}. {'%',a}. {func_info,{atom,m},{atom,f},1}. {label,2}. return. ==> function 0: bad entry
+{module,''}. {exports,[{f,1}]}. {attributes,[]}. {labels,3}. {function,f,1,2}. {label,1}. {func_info,{atom,''},{atom,f},1}. {label,2}. return. ==> form 0: bad form
+"#;
+
+// What stands behind the entry label 2 of a function f/1, and what is said of it.
+const BODY_FAULTS: &str = r#"{jump,{f,9}}. ==> function 0, instruction 3: label 9 missing
+{label,2}. return. ==> label 2: defined twice
+{call_ext_only,2,{extfunc,erlang,abs,1}}. ==> function 0, instruction 3: bad arity
+{move,{float,1.0},{x,0}}. return. ==> function 0, instruction 3: move outside the profile
+return. {'é€',1}. ==> function 0, instruction 4: é€ outside the profile
+{move,{x,0}}. return. ==> function 0, instruction 3: bad instruction
+return. {function,g,0,4}. {label,3}. {line,[]}. {jump,{f,9}}. ==> function 1: bad entry
+{jump,{f,2}}. ==> not built
+"#;
+
 #[test]
-fn refuses_what_is_no_source_of_a_module(rt: HostRuntime) -> Result<(), Fail> {
-    let sources: [&[u8]; 13] = [
-        b"",
-        b"% nothing\n",
-        b"{module,m}.\n",
-        // no function
-        b"{module,m}.\n{exports,[]}.\n{attributes,[]}.\n{labels,3}.\n",
-        // an export of no function, of no function of that arity
-        b"{module,m}.\n{exports,[{g,1}]}.\n{attributes,[]}.\n{labels,3}.\n{function,f,1,2}.\n{label,1}.\n{func_info,{atom,m},{atom,f},1}.\n{label,2}.\nreturn.\n",
-        b"{module,m}.\n{exports,[{f,2}]}.\n{attributes,[]}.\n{labels,3}.\n{function,f,1,2}.\n{label,1}.\n{func_info,{atom,m},{atom,f},1}.\n{label,2}.\nreturn.\n",
-        // a label twice, in one function and in two
-        b"{module,m}.\n{exports,[{f,1}]}.\n{attributes,[]}.\n{labels,3}.\n{function,f,1,2}.\n{label,2}.\n{func_info,{atom,m},{atom,f},1}.\n{label,2}.\nreturn.\n",
-        b"{module,m}.\n{exports,[]}.\n{attributes,[]}.\n{labels,3}.\n{function,f,1,2}.\n{label,1}.\n{func_info,{atom,m},{atom,f},1}.\n{label,2}.\nreturn.\n{function,g,1,3}.\n{label,1}.\n{func_info,{atom,m},{atom,g},1}.\n{label,3}.\nreturn.\n",
-        // a function twice
-        b"{module,m}.\n{exports,[]}.\n{attributes,[]}.\n{labels,3}.\n{function,f,1,2}.\n{label,1}.\n{func_info,{atom,m},{atom,f},1}.\n{label,2}.\nreturn.\n{function,f,1,4}.\n{label,3}.\n{func_info,{atom,m},{atom,f},1}.\n{label,4}.\nreturn.\n",
-        // another entry
-        b"{module,m}.\n{exports,[{f,1}]}.\n{attributes,[]}.\n{labels,3}.\n{function,f,1,3}.\n{label,1}.\n{func_info,{atom,m},{atom,f},1}.\n{label,2}.\nreturn.\n",
-        // a word that is reserved
-        b"{module,end}.\n{exports,[{f,1}]}.\n{attributes,[]}.\n{labels,3}.\n{function,f,1,2}.\n{label,1}.\n{func_info,{atom,end},{atom,f},1}.\n{label,2}.\nreturn.\n",
-        // no integer of 64 bits
-        b"{module,m}.\n{exports,[{f,1}]}.\n{attributes,[]}.\n{labels,99999999999999999999}.\n{function,f,1,2}.\n{label,1}.\n{func_info,{atom,m},{atom,f},1}.\n{label,2}.\nreturn.\n",
-        // 256 arguments
-        b"{module,m}.\n{exports,[{f,256}]}.\n{attributes,[]}.\n{labels,3}.\n{function,f,256,2}.\n{label,1}.\n{func_info,{atom,m},{atom,f},256}.\n{label,2}.\nreturn.\n",
-    ];
-    for source in sources {
-        expect_line(&rt, &["compile", "o", NAME], source, 1, b"m.S: not built\n")?;
+fn names_the_first_fault(rt: HostRuntime) -> Result<(), Fail> {
+    let alloc = rt.alloc();
+    for (head, table) in [("", FAULTS), (HEAD, BODY_FAULTS)] {
+        for row in table.lines() {
+            let (forms, words) = row.split_once(" ==> ").unwrap_or((row, ""));
+            let mut source = String::from_str(alloc, head)?;
+            source.push_str(forms)?;
+            let mut line = String::from_str(alloc, "m.S: ")?;
+            line.push_str(words)?;
+            line.push_str("\n")?;
+            let call = ["compile", "o", NAME];
+            expect_line(&rt, &call, source.as_bytes(), 1, line.as_bytes())?;
+        }
     }
     Ok(())
 }
@@ -225,7 +261,7 @@ fn nested(alloc: Global, depth: usize) -> Result<Vec<u8>, AllocError> {
 #[test]
 fn tells_a_form_that_is_too_deep(rt: HostRuntime) -> Result<(), Fail> {
     let lines: [(usize, &[u8]); 2] = [
-        (256, b"m.S: not built\n"),
+        (256, b"m.S: form 0: bad form\n"),
         (257, b"m.S: form 0: too deep\n"),
     ];
     for (depth, line) in lines {
@@ -257,8 +293,14 @@ fn status_of(
 
 #[test]
 fn compiles_what_holds_its_terms(rt: HostRuntime) -> Result<(), Fail> {
-    let bodies: [(&str, u8); 22] = [
+    let bodies: [(&str, u8); 24] = [
         ("return.\n", 0),
+        // what does nothing has anything in it
+        (
+            "{'%',{var_info,{x,0},[{type,{t_float,0.0}}]}}.\nreturn.\n",
+            0,
+        ),
+        ("{line,[{location,\"m.erl\",7}]}.\nreturn.\n", 0),
         ("", 1),
         // what is read holds a term
         ("{move,{x,1},{x,0}}.\nreturn.\n", 1),
@@ -288,9 +330,9 @@ fn compiles_what_holds_its_terms(rt: HostRuntime) -> Result<(), Fail> {
         ("{move,{integer,9223372036854775808},{x,0}}.\nreturn.\n", 1),
         ("{move,{integer,-9223372036854775808},{x,0}}.\nreturn.\n", 0),
         ("{move,{integer,-9223372036854775809},{x,0}}.\nreturn.\n", 1),
-        // zero with a sign, no plain atom, and no x register
+        // zero with a sign, an atom of a reserved word, and no x register
         ("{move,{integer,-0},{x,0}}.\nreturn.\n", 0),
-        ("{move,{atom,end},{x,0}}.\nreturn.\n", 1),
+        ("{move,{atom,end},{x,0}}.\nreturn.\n", 0),
         ("{move,{y,0},{x,0}}.\nreturn.\n", 1),
     ];
     for (instructions, status) in bodies {

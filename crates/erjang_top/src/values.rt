@@ -3,7 +3,7 @@
 ghost use Rattle.std.specs.Prelude.{◌≡◌, [], ◌∷◌, fold, map, IfOk, OnOk};
 ghost use Rattle.std.specs.List.{filter_map};
 ghost use Rattle.std.specs.Option.{option_map};
-ghost use Rattle.beam_code.specs.Forms.{opcode};
+ghost use Rattle.beam_code.specs.Opcode.{opcode};
 ghost use Rattle.beam_code.specs.Weights.{value_in as operand_in, with_value, distinct};
 ghost use Rattle.erjang_top.specs.Code.{seen_source};
 ghost use Rattle.erjang_top.specs.SeenValues.{seen_value, value_from, values_in};

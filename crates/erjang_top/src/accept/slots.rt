@@ -3,7 +3,7 @@
 ghost use Rattle.std.specs.Prelude.{◌≡◌, ◌<◌, true, List, ◌∷◌, map, nat_lt, unwrap_or};
 ghost use Rattle.std.specs.List.{list_all};
 ghost use Rattle.std.specs.Option.{option_map};
-ghost use Rattle.beam_code.specs.Forms.{opcode};
+ghost use Rattle.beam_code.specs.Opcode.{opcode};
 ghost use Rattle.beam_code.specs.Opcode.{Opcode, Move};
 ghost use Rattle.beam_code.specs.Accepted.{is_thin_function, is_thin_opcode, is_thin_source};
 ghost use Rattle.erjang_top.specs.Code.{seen_code, seen_source};
@@ -60,7 +60,7 @@ impl Registers {
     {
         match code {
             Code::Label(_) => None,
-            Code::Line => None,
+            Code::Line | Code::Comment => None,
             Code::FuncInfo { .. } => Some(true),
             Code::Move { from, to } => self.step_move(from, to),
             Code::Return => Some(self.reads(Source::X(0))),

@@ -2,7 +2,7 @@
 
 ghost use Rattle.std.specs.Prelude.{◌≡◌, ◌≤◌, ◌+◌, ◌*◌, nat_le, IfOk};
 ghost use Rattle.std.specs.List.{list_all};
-ghost use Rattle.beam_code.specs.Forms.{opcode};
+ghost use Rattle.beam_code.specs.Opcode.{opcode};
 ghost use Rattle.beam_code.specs.Weights.{instruction_weight as weight_of, weight, fits as is_within};
 
 use crate::code::{Code, decode};

@@ -9,6 +9,7 @@ ghost use Rattle.erjang_top.specs.ModuleClass.{first_value, fixed_entries, value
 ghost use Rattle.erjang_top.specs.SeenValues.{seen_value};
 ghost use Rattle.erjang_top.specs.Written.{ClassFits};
 
+use super::atom::atom_text;
 use super::bytes::push_u2;
 use super::constant::{Constant, push_constant, push_constants};
 use super::names::{class_name, method_name};
@@ -120,7 +121,7 @@ pub fn push_pool(
     push_u2(out, first_name(values) + functions.len() as u16)?;
     let class = class_name(alloc, &source.name)?;
     push_fixed(out, &class)?;
-    push_values(out, values)?;
+    push_values(alloc, out, values)?;
     push_names(alloc, out, functions)
 }
 
@@ -165,28 +166,31 @@ fn push_fixed(out: &mut Vec<u8>, class: &[u8]) -> Result<(), AllocError>
 }
 
 /// Appends the entries of the module's values.
-fn push_values(out: &mut Vec<u8>, values: &IndexSet<Value>) -> Result<(), AllocError>
+fn push_values(alloc: Global, out: &mut Vec<u8>, values: &IndexSet<Value>) -> Result<(), AllocError>
     requires count { first_value + 2 * length values.now.keys < 2 ^ 16 }
     requires thin { AllByRecursion (λ value. is_thin_source (Of value) ≡ true) (map seen_value values.now.keys) }
     ensures { OnOk result (out.new.items ≡ out.old.items ++ flat_map constant_bytes (values_entries first_value (map seen_value values.now.keys))) }
 {
     let mut at = FIRST_VALUE;
     for value in values.as_slice() {
-        push_value(out, at, value)?;
+        push_value(alloc, out, at, value)?;
         at += VALUE_ENTRIES;
     }
     Ok(())
 }
 
 /// Appends a value's entries, of which the first has this index.
-fn push_value(out: &mut Vec<u8>, at: u16, value: &Value) -> Result<(), AllocError>
+fn push_value(alloc: Global, out: &mut Vec<u8>, at: u16, value: &Value) -> Result<(), AllocError>
     requires at { at + 1 < 2 ^ 16 }
     requires thin { is_thin_source (Of (seen_value value.now)) ≡ true }
     ensures { OnOk result (out.new.items ≡ out.old.items ++ flat_map constant_bytes (value_entries at (seen_value value.now))) }
 {
     match value {
         Value::Integer(number) => push_constant(out, &Constant::Long(*number)),
-        Value::Atom(name) => push_text(out, at, name.as_str().as_bytes()),
+        Value::Atom(name) => {
+            let text = atom_text(alloc, name)?;
+            push_text(out, at, &text)
+        }
         Value::Nil => push_text(out, at, NIL),
     }
 }

@@ -2,7 +2,7 @@
 
 ghost use Rattle.std.specs.Prelude.{◌≡◌, ◌≤◌, ◌+◌, ◌*◌, ◌∷◌, [], ◌++◌, ◌<◌, ◌^◌, true, max, length, map, OnOk, IfOk};
 ghost use Rattle.std.specs.List.{flat_map, AllByRecursion};
-ghost use Rattle.beam_code.specs.Forms.{opcode};
+ghost use Rattle.beam_code.specs.Opcode.{opcode};
 ghost use Rattle.beam_code.specs.LabelRules.{opcodes};
 ghost use Rattle.beam_code.specs.Opcode.{Integer};
 ghost use Rattle.beam_code.specs.Accepted.{is_register, is_thin_source, is_thin_opcode};
@@ -164,7 +164,7 @@ fn push_instr(
             push_ops(code, &RETURN_CODE)?;
             Ok(false)
         }
-        Code::Label(_) | Code::Line | Code::Other => Ok(true),
+        Code::Label(_) | Code::Line | Code::Comment | Code::Other => Ok(true),
     }
 }
 

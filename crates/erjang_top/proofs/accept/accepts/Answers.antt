@@ -2,8 +2,7 @@ use Rattle.std.proofs.Common.{sym, ap, ◌∙◌}
 use Rattle.std.specs.List.{list_all}
 use Rattle.beam_code.specs.Accepted.{is_thin_function}
 use Rattle.erjang_top.specs.SlotCheck.{passes}
-use Rattle.erjang_top.proofs.AcceptedLaw.{refused, slots-pass, all-decided}
-use Rattle.erjang_top.proofs.ModuleRows.{functions-plain}
+use Rattle.erjang_top.proofs.AcceptedLaw.{refused, slots-pass, functions-plain, all-decided}
 use Rattle.erjang_top.proofs.accept.accepts.Goals as goal
 
 pub are_well_slotted-requires : goal.are_well_slotted-requires
@@ -18,5 +17,5 @@ returns-then-not-are_well_slotted c =
 pub returns : goal.returns
 returns c =
     all-decided c.args.module.now c.fits.result (sym c.is_plain_module.ensures ∙ c.if-not-is_plain_module.false)
-    (sym c.in_ok-meets_label_rules.ensures ∙ c.if-not-branch.false)
+    c.requires
     (ap (list_all passes) (sym c.as_slice.ensures) ∙ sym c.are_well_slotted.ensures ∙ c.if-not-are_well_slotted.false) c.fits.ensures

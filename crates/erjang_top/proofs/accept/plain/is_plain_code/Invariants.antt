@@ -1,6 +1,6 @@
 use Rattle.std.proofs.Common.{◌≡◌, drop, map}
 use Rattle.std.specs.List.{list_all}
-use Rattle.beam_code.specs.Forms.{opcode}
+use Rattle.beam_code.specs.Opcode.{opcode}
 use Rattle.beam_code.specs.Accepted.{is_thin_opcode}
 use Rattle.erjang_top.proofs.accept.plain.is_plain_code.Given as goal
 

@@ -1,5 +1,5 @@
 use Rattle.std.proofs.Common.{◌≡◌, length, map}
-use Rattle.beam_code.specs.Forms.{opcode}
+use Rattle.beam_code.specs.Opcode.{opcode}
 use Rattle.erjang_top.specs.SlotCheck.{behind}
 use Rattle.erjang_top.proofs.accept.slots.behind.Given as goal
 

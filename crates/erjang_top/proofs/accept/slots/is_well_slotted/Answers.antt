@@ -1,6 +1,6 @@
 use Rattle.std.proofs.Common.{◌≡◌, Some, true, map, nat_lt, sym, ap, ◌∙◌}
 use Rattle.std.specs.Option.{option_map_or}
-use Rattle.beam_code.specs.Forms.{opcode}
+use Rattle.beam_code.specs.Opcode.{opcode}
 use Rattle.erjang_top.specs.Flow.{flows}
 use Rattle.erjang_top.specs.SlotCheck.{behind}
 use Rattle.erjang_top.proofs.SlotSteps.{behind-thin, function-thin}

@@ -1,5 +1,5 @@
 use Rattle.std.proofs.Common.{◌≡◌, ◌≤◌, ◌+◌, drop, map, sum}
-use Rattle.beam_code.specs.Forms.{opcode}
+use Rattle.beam_code.specs.Opcode.{opcode}
 use Rattle.beam_code.specs.Weights.{instruction_weight, weight}
 use Rattle.erjang_top.proofs.accept.weights.is_light.Given as goal
 

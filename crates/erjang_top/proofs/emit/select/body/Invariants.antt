@@ -1,5 +1,5 @@
 use Rattle.std.proofs.Common.{◌≡◌, length, map}
-use Rattle.beam_code.specs.Forms.{opcode}
+use Rattle.beam_code.specs.Opcode.{opcode}
 use Rattle.erjang_top.specs.ModuleClass.{behind, body}
 use Rattle.erjang_top.proofs.emit.select.body.Given as goal
 

@@ -1,5 +1,5 @@
 use Rattle.std.proofs.Common.{map}
-use Rattle.beam_code.specs.Forms.{opcode}
+use Rattle.beam_code.specs.Opcode.{opcode}
 use Rattle.erjang_top.proofs.Plain.{body_plain}
 use Rattle.erjang_top.proofs.emit.select.local_count.Goals as goal
 

@@ -1,6 +1,6 @@
 use Rattle.std.proofs.Common.{◌≡◌, ◌++◌, true, map, drop}
 use Rattle.std.specs.List.{flat_map, AllByRecursion}
-use Rattle.beam_code.specs.Forms.{opcode}
+use Rattle.beam_code.specs.Opcode.{opcode}
 use Rattle.beam_code.specs.Accepted.{is_thin_opcode}
 use Rattle.erjang_top.specs.ClassFile.{op_bytes}
 use Rattle.erjang_top.specs.ModuleClass.{body_ops}

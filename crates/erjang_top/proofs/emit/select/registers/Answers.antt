@@ -1,5 +1,5 @@
 use Rattle.std.proofs.Common.{◌≡◌, true, ap, max, ◌∙◌, arith}
-use Rattle.beam_code.specs.Forms.{opcode}
+use Rattle.beam_code.specs.Opcode.{opcode}
 use Rattle.beam_code.specs.Accepted.{is_thin_opcode}
 use Rattle.erjang_top.proofs.Appends.{step_all}
 use Rattle.erjang_top.proofs.SelectSteps.{registers-step}

@@ -1,6 +1,6 @@
 use Rattle.std.proofs.Common.{◌≡◌, ◌≤◌, true, max, map, drop}
 use Rattle.std.specs.List.{AllByRecursion}
-use Rattle.beam_code.specs.Forms.{opcode}
+use Rattle.beam_code.specs.Opcode.{opcode}
 use Rattle.beam_code.specs.Accepted.{is_thin_opcode}
 use Rattle.erjang_top.specs.ModuleClass.{registers}
 use Rattle.erjang_top.proofs.emit.select.registers.Given as goal
