@@ -2,7 +2,7 @@
 use Rattle.std.proofs.Common.{◌≡◌, ℕ, ◌+◌, Bool, true, false, not, ◌&&◌, ◌||◌, List, [], ◌∷◌, ◌++◌, append-nil, append_assoc, map, refl, sym, ap, ◌∙◌, subst}
 use Rattle.std.specs.Prelude.{if◌then◌else◌, Result, Ok, Err, Option, None, Some, option_map, option_and_then, unwrap_or, codes}
 use Rattle.std.specs.List.{list_all, filter_map, cons_option}
-use Rattle.beam_code.specs.Fits.{most_of_all}
+use Rattle.beam_code.specs.declared.operand.TheConstants.{LAST_COUNT}
 use Rattle.ej_term.specs.declared.asm_term.AsmTerm.{AsmTerm}
 use Rattle.beam_code.specs.declared.module.Function.{Function}
 use Rattle.beam_code.specs.Keys.{Key, is_among, no_key_twice, are_distinct, are_exports, key_of as key_of_function}
@@ -182,7 +182,7 @@ attributes-kept is_one h g e all = by h.attributes e
     by false e = sym (ap (all_are is_one) (some-same (record h { attributes = true }) g e)) ∙ all
 
 labels-kept : (is_one : Key → Bool) (h g : Header) (t : AsmTerm) → with_labels h t ≡ Some g → all_are is_one h ≡ true → all_are is_one g ≡ true
-labels-kept is_one h g t e all = by h.labels (number most_of_all t) e
+labels-kept is_one h g t e all = by h.labels (number LAST_COUNT t) e
   where
     by : (b : Bool) (o : Option ℕ) → ◌≡◌ {A = Option Header} (if b then None else option_map (λ n. record h { labels = true }) o) (Some g) → all_are is_one g ≡ true
     by true o e = absurd (cc)

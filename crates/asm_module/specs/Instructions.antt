@@ -3,11 +3,12 @@ use Rattle.std.specs.Prelude.{ℕ, Bool, true, false, not, nat_eq, nat_le, ◌&&
 use Rattle.std.specs.Option.{is_some}
 use Rattle.ej_term.specs.declared.asm_term.AsmTerm.{AsmTerm}
 use Rattle.ej_tables.specs.Rows.{number_of}
-use Rattle.genop_table.specs.declared.instructions.Part.{Part}
+use Rattle.genop_table.specs.declared.genop.Genop.{Genop}
+use Rattle.genop_table.specs.declared.genop.Genop.TheVariants as g
+use Rattle.genop_table.specs.declared.part.Place.{Place}
 use Rattle.genop_table.specs.Builtins.{builtin_number, is_guard, is_guard_name}
-use Rattle.genop_table.specs.Instructions.{instruction_entries, shape_of}
+use Rattle.genop_table.specs.Instructions.{Instruction as Row, spelling_of}
 use Rattle.genop_table.specs.Tests.{test_entries}
-use Rattle.beam_code.specs.declared.rows.TheConstants.{BIF, GC_BIF, TEST, HAS_MAP_FIELDS, RAISE}
 use Rattle.beam_code.specs.Foreign.{holds_foreign}
 use Rattle.beam_code.specs.Parts.{Instruction, fitting}
 use Rattle.asm_module.specs.declared.fault.FormFault.{FormFault}
@@ -35,8 +36,8 @@ abbrev pub terms_of : Written → List AsmTerm
 terms_of w = unwrap_or w.terms []
 
 -- the first row of that name
-unfoldable pub row_named : List ℕ → Option ℕ
-row_named name = number_of (encode_utf8_all name) 0 instruction_entries
+unfoldable pub row_named : List ℕ → Option Row
+row_named name = spelling_of (encode_utf8_all name) 0
 
 -- `{line,_}` and `{'%',_}`, in which anything may stand
 abbrev pub is_free : Written → Bool
@@ -84,67 +85,61 @@ is_bif name arguments = if is_word name (codes "raise") then are_two arguments e
 abbrev pub is_test : List ℕ → Bool
 is_test name = is_word name (codes "has_map_fields") || is_some (test_number name)
 
--- the name is one that the row's instructions may have
-abbrev pub is_known_in : ℕ → List AsmTerm → List ℕ → Bool
-is_known_in row terms name =
-    if nat_eq row TEST then is_test name
-    else if nat_eq row BIF then is_bif name (argument_count 2 terms)
-    else if nat_eq row GC_BIF then is_guard_with name (argument_count 3 terms)
-    else true
+-- the name is one that the instruction may have
+abbrev pub is_known_in : Genop → List AsmTerm → List ℕ → Bool
+is_known_in g.Test terms name = is_test name
+is_known_in g.Bif terms name = is_bif name (argument_count 2 terms)
+is_known_in g.GcBif terms name = is_guard_with name (argument_count 3 terms)
+is_known_in _ terms name = true
 
 abbrev pub unless : Bool → List ℕ → Option (List ℕ)
 unless known name = if known then None else Some name
 
 -- the name of what is no test, or no guard builtin of that arity
-unfoldable pub stranger : ℕ → List AsmTerm → Option (List ℕ)
-stranger row terms = option_and_then (λ name. unless (is_known_in row terms name) name) (named terms)
-
-abbrev pub second_spelling : ℕ → List ℕ → ℕ
-second_spelling row name =
-    if nat_eq row BIF && is_word name (codes "raise") then RAISE
-    else if nat_eq row TEST && is_word name (codes "has_map_fields") then HAS_MAP_FIELDS
-    else row
-
-abbrev pub row_for : ℕ → Option (List ℕ) → ℕ
-row_for row None = row
-row_for row (Some name) = second_spelling row name
+unfoldable pub stranger : Genop → List AsmTerm → Option (List ℕ)
+stranger genop terms = option_and_then (λ name. unless (is_known_in genop terms name) name) (named terms)
 
 -- `raise` under `bif` and `has_map_fields` under `test` have rows of their own
-unfoldable pub row_of : ℕ → List AsmTerm → ℕ
+abbrev pub row_with : Genop → Row → List ℕ → Option Row
+row_with g.Bif row name = if is_word name (codes "raise") then spelling_of (codes "bif") 1 else Some row
+row_with g.Test row name = if is_word name (codes "has_map_fields") then spelling_of (codes "test") 1 else Some row
+row_with _ row name = Some row
+
+abbrev pub row_for : Row → Option (List ℕ) → Option Row
+row_for row None = Some row
+row_for row (Some name) = row_with row.genop row name
+
+-- the row of an instruction whose first row by name is that one
+unfoldable pub row_of : Row → List AsmTerm → Option Row
 row_of row terms = row_for row (named terms)
 
-abbrev pub number_for : ℕ → List AsmTerm → List ℕ → Option ℕ
-number_for row terms name =
-    if nat_eq row TEST then test_number name
-    else if nat_eq row BIF then option_and_then (guard_number name) (argument_count 2 terms)
-    else if nat_eq row GC_BIF then option_and_then (guard_number name) (argument_count 3 terms)
-    else Some 0
+abbrev pub number_for : Genop → List AsmTerm → List ℕ → Option ℕ
+number_for g.Test terms name = test_number name
+number_for g.Bif terms name = option_and_then (guard_number name) (argument_count 2 terms)
+number_for g.GcBif terms name = option_and_then (guard_number name) (argument_count 3 terms)
+number_for _ terms name = Some 0
 
 -- the number of the test or guard builtin that the form names, 0 where it names none
-abbrev pub number_in : ℕ → List AsmTerm → ℕ
-number_in row terms = unwrap_or (option_and_then (number_for row terms) (named terms)) 0
+abbrev pub number_in : Genop → List AsmTerm → ℕ
+number_in genop terms = unwrap_or (option_and_then (number_for genop terms) (named terms)) 0
 
--- an atom alone, where nothing stands behind the name in the row's shape
-abbrev pub bare : ℕ → List Part → Option Instruction
-bare row parts = if nat_eq (length parts) 0 then fitting row [] else None
+-- an atom alone, where nothing stands behind the row's name
+abbrev pub bare : ℕ → List Place → Option Instruction
+bare number places = if nat_eq (length places) 0 then fitting number [] else None
 
--- a tuple of what the row's shape asks
-abbrev pub in_tuple : ℕ → List Part → List AsmTerm → Option Instruction
-in_tuple row parts terms = if nat_eq (length parts) 0 then None else option_and_then (fitting row) (operands_of row (number_in row terms) parts terms)
+-- a tuple of what the row's places ask
+abbrev pub in_tuple : Row → List AsmTerm → Option Instruction
+in_tuple row terms =
+    if nat_eq (length row.places) 0 then None
+    else option_and_then (fitting row.entry.number) (operands_of (number_in row.genop terms) row.places terms)
 
-abbrev pub by_terms : ℕ → List Part → Option (List AsmTerm) → Option Instruction
-by_terms row parts None = bare row parts
-by_terms row parts (Some terms) = in_tuple row parts terms
+abbrev pub by_terms : Row → Option (List AsmTerm) → Option Instruction
+by_terms row None = bare row.entry.number row.places
+by_terms row (Some terms) = in_tuple row terms
 
-abbrev pub by_parts : ℕ → Written → List Part → Option Instruction
-by_parts row w parts = by_terms row parts w.terms
-
-abbrev pub by_shape : ℕ → Written → Option (List Part) → Option Instruction
-by_shape row w shape = option_and_then (by_parts row w) shape
-
--- the instruction of that row: an atom where nothing stands behind the name, and else a tuple of what the shape asks
-unfoldable pub instruction_of : ℕ → Written → Option Instruction
-instruction_of row w = by_shape row w (shape_of row)
+-- the instruction of that row: an atom where nothing stands behind the name, and else a tuple of what the places ask
+unfoldable pub instruction_of : Row → Written → Option Instruction
+instruction_of row w = by_terms row w.terms
 
 -- no shape fits
 abbrev pub or_bad : ℕ → ℕ → Option Instruction → Result Instruction FormFault
@@ -152,18 +147,18 @@ or_bad func index None = Err (BadInstruction func index)
 or_bad func index (Some i) = Ok i
 
 -- a name that is none of the tests or guard builtins
-abbrev pub or_stranger : ℕ → ℕ → ℕ → Written → Option (List ℕ) → Result Instruction FormFault
+abbrev pub or_stranger : ℕ → ℕ → Row → Written → Option (List ℕ) → Result Instruction FormFault
 or_stranger func index row w (Some name) = Err (OutsideProfile func index name)
-or_stranger func index row w None = or_bad func index (instruction_of (row_of row (terms_of w)) w)
+or_stranger func index row w None = or_bad func index (option_and_then (λ r. instruction_of r w) (row_of row (terms_of w)))
 
 -- an opaque token, a pid or a reference
-abbrev pub or_strange : ℕ → ℕ → ℕ → AsmTerm → Written → Result Instruction FormFault
+abbrev pub or_strange : ℕ → ℕ → Row → AsmTerm → Written → Result Instruction FormFault
 or_strange func index row t w =
     if is_strange t w then Err (OutsideProfile func index w.name)
-    else or_stranger func index row w (stranger row (terms_of w))
+    else or_stranger func index row w (stranger row.genop (terms_of w))
 
 -- a name that no row has
-abbrev pub or_unknown : ℕ → ℕ → AsmTerm → Written → Option ℕ → Result Instruction FormFault
+abbrev pub or_unknown : ℕ → ℕ → AsmTerm → Written → Option Row → Result Instruction FormFault
 or_unknown func index t w None = Err (OutsideProfile func index w.name)
 or_unknown func index t w (Some row) = or_strange func index row t w
 

@@ -4,7 +4,7 @@ use Rattle.std.specs.List.{filter_map}
 use Rattle.std.specs.Option.{option_zip}
 use Rattle.ej_term.specs.declared.asm_term.AsmTerm.{AsmTerm}
 use Rattle.beam_code.specs.declared.module.Module.{Module}
-use Rattle.beam_code.specs.Fits.{most_of_all}
+use Rattle.beam_code.specs.declared.operand.TheConstants.{LAST_COUNT}
 use Rattle.beam_code.specs.Keys.{Key, is_among}
 use Rattle.beam_code.specs.Parts.{Instruction, FunctionParts, ModuleParts, module_parts}
 use Rattle.asm_module.specs.declared.fault.FormFault.{FormFault}
@@ -26,7 +26,7 @@ heading_with name (Some arity) (Some entry) = Some (record { name = name; arity 
 heading_with name _ _ = None
 
 abbrev pub heading_of : AsmTerm → AsmTerm → AsmTerm → Option Heading
-heading_of name arity entry = option_and_then (λ n. heading_with n (number 255 arity) (number most_of_all entry)) (atom name)
+heading_of name arity entry = option_and_then (λ n. heading_with n (number 255 arity) (number LAST_COUNT entry)) (atom name)
 
 abbrev pub heading_parts : List AsmTerm → Option Heading
 heading_parts (name ∷ arity ∷ entry ∷ []) = heading_of name arity entry
@@ -149,7 +149,7 @@ abbrev pub with_attributes : Header → Option Header
 with_attributes h = if h.attributes then None else Some (record h { attributes = true })
 
 abbrev pub with_labels : Header → AsmTerm → Option Header
-with_labels h t = if h.labels then None else option_map (λ n. record h { labels = true }) (number most_of_all t)
+with_labels h t = if h.labels then None else option_map (λ n. record h { labels = true }) (number LAST_COUNT t)
 
 unfoldable pub header_pair : (Key → Bool) → Header → List ℕ × AsmTerm → Option Header
 header_pair is_one h p =

@@ -2,22 +2,27 @@
 use Rattle.std.specs.Prelude.{ℕ, pos, Bool, true, false, nat_eq, ◌&&◌, ◌||◌, if◌then◌else◌, List, [], ◌∷◌, ◌++◌, codes, unwrap_or, Option, None, Some, option_map, option_and_then}
 use Rattle.std.specs.Option.{option_zip}
 use Rattle.ej_term.specs.declared.asm_term.AsmTerm.{AsmTerm}
-use Rattle.genop_table.specs.declared.instructions.Part.{Part}
-use Rattle.genop_table.specs.declared.instructions.Part.TheVariants as part
+use Rattle.genop_table.specs.declared.part.Limit.{Limit}
+use Rattle.genop_table.specs.declared.part.Limit.TheVariants as limit
+use Rattle.genop_table.specs.declared.part.Part.{Part}
+use Rattle.genop_table.specs.declared.part.Part.TheVariants as part
+use Rattle.genop_table.specs.declared.part.Place.{Place}
+use Rattle.genop_table.specs.declared.tests.TestArguments.{TestArguments}
+use Rattle.genop_table.specs.declared.tests.TestArguments.TheVariants.{SourceAndSize, SourceSizeAndTag}
+use Rattle.genop_table.specs.Tests.{arguments_of}
 use Rattle.beam_code.specs.declared.operand.Operand.{Operand}
 use Rattle.beam_code.specs.declared.operand.Operand.TheVariants as operand
 use Rattle.beam_code.specs.declared.operand.Reg.{Reg}
 use Rattle.beam_code.specs.declared.operand.Reg.TheVariants as register
 use Rattle.beam_code.specs.declared.operand.Src.{Src}
 use Rattle.beam_code.specs.declared.operand.Src.TheVariants as source
-use Rattle.beam_code.specs.declared.rows.TheConstants.{BIF, GC_BIF, TEST, RAISE, TEST_ARITY, IS_TAGGED_TUPLE}
-use Rattle.beam_code.specs.Fits.{most_of_all}
+use Rattle.beam_code.specs.declared.operand.TheConstants.{LAST_COUNT, LAST_REGISTER}
 use Rattle.asm_module.specs.Terms.{is_word, atom, integer, number, elements, tagged, pair, behind, each, Tagged}
 
 abbrev pub register_named : List ℕ × AsmTerm → Option Reg
 register_named p =
-    if is_word p.0 (codes "x") then option_map register.X (number 1023 p.1)
-    else if is_word p.0 (codes "y") then option_map register.Y (number 1023 p.1)
+    if is_word p.0 (codes "x") then option_map register.X (number LAST_REGISTER p.1)
+    else if is_word p.0 (codes "y") then option_map register.Y (number LAST_REGISTER p.1)
     else None
 
 -- `{x,N}` or `{y,N}`
@@ -26,11 +31,11 @@ register_of t = option_and_then register_named (pair t)
 
 -- `{f,L}`
 abbrev pub label_of : AsmTerm → Option ℕ
-label_of t = option_and_then (number most_of_all) (behind (codes "f") t)
+label_of t = option_and_then (number LAST_COUNT) (behind (codes "f") t)
 
 -- a count
 abbrev pub count_of : AsmTerm → Option ℕ
-count_of t = number most_of_all t
+count_of t = number LAST_COUNT t
 
 abbrev pub nil_named : List ℕ → Option Src
 nil_named name = if is_word name (codes "nil") then Some source.Nil else None
@@ -89,16 +94,21 @@ sized (first ∷ size ∷ rest) =
     option_and_then (λ s. option_and_then (λ n. option_map (λ ss. s ∷ n ∷ ss) (each source_of rest)) (size_of size)) (source_of first)
 sized _ = None
 
--- in the arguments of `test_arity` and `is_tagged_tuple` a count stands second
-abbrev pub takes_size : ℕ → ℕ → Bool
-takes_size row number = nat_eq row TEST && (nat_eq number TEST_ARITY || nat_eq number IS_TAGGED_TUPLE)
+-- in the arguments of some tests a count stands second
+abbrev pub takes_size : Option TestArguments → Bool
+takes_size (Some SourceAndSize) = true
+takes_size (Some SourceSizeAndTag) = true
+takes_size _ = false
 
-abbrev pub arguments_of : ℕ → ℕ → List AsmTerm → Option (List Src)
-arguments_of row number terms = if takes_size row number then sized terms else each source_of terms
+abbrev pub test_sources : Option TestArguments → List AsmTerm → Option (List Src)
+test_sources takes terms = if takes_size takes then sized terms else each source_of terms
 
 -- the arguments of tests and builtins are a list, the other sources `{list,L}`
-abbrev pub sources_in : ℕ → AsmTerm → Option (List AsmTerm)
-sources_in row t = if nat_eq row BIF || nat_eq row GC_BIF || nat_eq row TEST || nat_eq row RAISE then elements t else listed t
+abbrev pub sources_of : Limit → ℕ → AsmTerm → Option (List Src)
+sources_of limit.OfTest number t = option_and_then (test_sources (arguments_of number)) (elements t)
+sources_of limit.OfBuiltin number t = option_and_then (each source_of) (elements t)
+sources_of limit.OfRaise number t = option_and_then (each source_of) (elements t)
+sources_of _ number t = option_and_then (each source_of) (listed t)
 
 -- elements two by two
 abbrev pub two_by_two : {X : Type 0} → (AsmTerm → AsmTerm → Option X) → List AsmTerm → Option (List X)
@@ -120,20 +130,20 @@ unfoldable pub get_of : AsmTerm → AsmTerm → Option (Src × Reg)
 get_of a b = option_zip (source_of a) (register_of b)
 
 -- The operand at a place; the number is that of the test or builtin that the form names, where it names one.
-abbrev pub operand_of : ℕ → ℕ → Part → AsmTerm → Option Operand
-operand_of row number part.Src t = option_map operand.Src (source_of t)
-operand_of row number part.Reg t = option_map operand.Reg (register_of t)
-operand_of row number part.Label t = option_map operand.Label (label_of t)
-operand_of row number part.Count t = option_map operand.Count (count_of t)
-operand_of row number part.Name t = Some (operand.Name number)
-operand_of row number part.Ext t = external_of t
-operand_of row number part.Srcs t = option_map operand.Srcs (option_and_then (arguments_of row number) (sources_in row t))
-operand_of row number part.Cases t = option_map operand.Cases (option_and_then (two_by_two case_of) (listed t))
-operand_of row number part.Arities t = option_map operand.Cases (option_and_then (two_by_two arity_of) (listed t))
-operand_of row number part.Pairs t = option_map operand.Pairs (option_and_then (two_by_two pair_of) (listed t))
-operand_of row number part.Gets t = option_map operand.Gets (option_and_then (two_by_two get_of) (listed t))
-operand_of row number part.Regs t = option_map operand.Regs (option_and_then (each register_of) (listed t))
-operand_of row number _ t = None
+abbrev pub operand_of : Limit → ℕ → Part → AsmTerm → Option Operand
+operand_of l number part.Src t = option_map operand.Src (source_of t)
+operand_of l number part.Reg t = option_map operand.Reg (register_of t)
+operand_of l number part.Label t = option_map operand.Label (label_of t)
+operand_of l number part.Count t = option_map operand.Count (count_of t)
+operand_of l number part.Name t = Some (operand.Name number)
+operand_of l number part.Ext t = external_of t
+operand_of l number part.Srcs t = option_map operand.Srcs (sources_of l number t)
+operand_of l number part.Cases t = option_map operand.Cases (option_and_then (two_by_two case_of) (listed t))
+operand_of l number part.Arities t = option_map operand.Cases (option_and_then (two_by_two arity_of) (listed t))
+operand_of l number part.Pairs t = option_map operand.Pairs (option_and_then (two_by_two pair_of) (listed t))
+operand_of l number part.Gets t = option_map operand.Gets (option_and_then (two_by_two get_of) (listed t))
+operand_of l number part.Regs t = option_map operand.Regs (option_and_then (each register_of) (listed t))
+operand_of l number _ t = None
 
 -- a count or `{alloc,_}`
 abbrev pub is_need_paired : Option ℕ → Option AsmTerm → Bool
@@ -150,14 +160,14 @@ abbrev pub one_or_none : Option Operand → List Operand
 one_or_none o = unwrap_or (option_map one o) []
 
 -- what a place keeps: nothing of what is needed of the heap and of what is not looked at, and else its operand
-unfoldable pub kept_of : ℕ → ℕ → Part → AsmTerm → Option (List Operand)
-kept_of row number part.Need t = if is_need t then Some [] else None
-kept_of row number part.Any t = Some []
-kept_of row number p t = option_map one (operand_of row number p t)
+unfoldable pub kept_of : Limit → ℕ → Part → AsmTerm → Option (List Operand)
+kept_of l number part.Need t = if is_need t then Some [] else None
+kept_of l number part.Any t = Some []
+kept_of l number p t = option_map one (operand_of l number p t)
 
--- the operands of the terms behind an instruction's name, by these parts of its row's shape
-abbrev pub operands_of : ℕ → ℕ → List Part → List AsmTerm → Option (List Operand)
-operands_of row number [] [] = Some []
-operands_of row number (p ∷ parts) (t ∷ terms) =
-    option_and_then (λ first. option_map (λ rest. first ++ rest) (operands_of row number parts terms)) (kept_of row number p t)
-operands_of row number _ _ = None
+-- the operands of the terms behind an instruction's name, by the places of its row
+abbrev pub operands_of : ℕ → List Place → List AsmTerm → Option (List Operand)
+operands_of number [] [] = Some []
+operands_of number (p ∷ places) (t ∷ terms) =
+    option_and_then (λ first. option_map (λ rest. first ++ rest) (operands_of number places terms)) (kept_of p.limit number p.part t)
+operands_of number _ _ = None

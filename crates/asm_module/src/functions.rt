@@ -11,7 +11,7 @@ ghost use Rattle.asm_module.specs.Seen.{Fails, Gives, heading_seen, is_held, key
 use crate::FormFault;
 use crate::instruction::instruction;
 use crate::terms::{atom, is_word, number, tagged};
-use beam_code::Function;
+use beam_code::{Function, LAST_COUNT};
 use ej_term::{AsmTerm, Text};
 use indexmap::IndexSet;
 use sqlite_items::Items;
@@ -65,7 +65,7 @@ fn heading_of<'a>(name: &'a AsmTerm, arity: &AsmTerm, entry: &AsmTerm) -> Option
 {
     let name = atom(name)?;
     let arity = number(255, arity)?;
-    let entry = number(u32::MAX, entry)?;
+    let entry = number(LAST_COUNT, entry)?;
     Some(Heading {
         name,
         arity: arity as u8,

@@ -9,6 +9,7 @@ ghost use Rattle.asm_module.specs.Seen.{Gives, header_seen, headed_seen, key_see
 use crate::FormFault;
 use crate::functions::Key;
 use crate::terms::{atom, behind, elements, is_word, number, pair, tuple};
+use beam_code::LAST_COUNT;
 use ej_term::{AsmTerm, Text};
 use indexmap::IndexSet;
 use sqlite_items::Items;
@@ -145,7 +146,7 @@ impl Header {
         if self.labels {
             return None;
         }
-        if number(u32::MAX, term).is_none() {
+        if number(LAST_COUNT, term).is_none() {
             return None;
         }
         Some(Header {

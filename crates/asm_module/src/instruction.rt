@@ -1,6 +1,7 @@
 //! An instruction of a form, or the first case by which it is refused.
 
-ghost use Rattle.std.specs.Prelude.{◌≡◌, List, Option, option_map, IfOk};
+ghost use Rattle.std.specs.Prelude.{◌≡◌, List, Option, option_map, option_and_then, IfOk};
+ghost use Rattle.genop_table.specs.InstructionRows.{instruction_of as row_seen};
 ghost use Rattle.beam_code.specs.Parts.{parts_of};
 ghost use Rattle.asm_module.specs.Instructions as spec;
 ghost use Rattle.asm_module.specs.Seen.{Gives, written_seen};
@@ -12,7 +13,7 @@ use crate::names::{
 use crate::operands::operands_of;
 use beam_code::{Instr, Operand};
 use ej_term::AsmTerm;
-use genop_table::Part;
+use genop_table::InstructionRow;
 use sqlite_items::Items;
 use std::alloc::{AllocError, Global};
 
@@ -36,7 +37,7 @@ pub(crate) fn instruction(
         let name = written.name.clone()?;
         return Err(FormFault::OutsideProfile { func, index, name });
     }
-    if let Some(name) = stranger(row, terms_of(&written)) {
+    if let Some(name) = stranger(row.genop, terms_of(&written)) {
         let name = name.clone()?;
         return Err(FormFault::OutsideProfile { func, index, name });
     }
@@ -54,59 +55,69 @@ fn shaped(
     alloc: Global,
     func: usize,
     index: usize,
-    row: u16,
+    row: Option<InstructionRow>,
     written: &Written<'_>,
 ) -> Result<Instr, FormFault>
-    ensures { Gives parts_of result (spec.or_bad func index (spec.instruction_of row (written_seen written.now))) }
+    ensures { Gives parts_of result (spec.or_bad func index (option_and_then (λ r. spec.instruction_of r (written_seen written.now)) (option_map row_seen row))) }
 {
-    match instruction_of(alloc, row, written)? {
+    match found(alloc, row, written)? {
         Some(instr) => Ok(instr),
         None => Err(FormFault::BadInstruction { func, index }),
     }
 }
 
-/// The instruction of that row: an atom where nothing stands behind the name, and else a tuple of what the shape asks.
-#[tactic(auto, unfolding(crate::specs::Instructions::instruction_of))]
-fn instruction_of(
+fn found(
     alloc: Global,
-    row: u16,
+    row: Option<InstructionRow>,
     written: &Written<'_>,
 ) -> Result<Option<Instr>, AllocError>
-    ensures { IfOk result (λ found. option_map parts_of found ≡ spec.instruction_of row (written_seen written.now)) }
+    ensures { IfOk result (λ found. option_map parts_of found ≡ option_and_then (λ r. spec.instruction_of r (written_seen written.now)) (option_map row_seen row)) }
 {
-    match genop_table::shape(row) {
-        Some(parts) => by_shape(alloc, row, written, parts),
+    match row {
+        Some(row) => instruction_of(alloc, row, written),
         None => Ok(None),
     }
 }
 
-fn by_shape(
+/// The instruction of that row: an atom where nothing stands behind the name, and else a tuple of what the places ask.
+#[tactic(auto, unfolding(crate::specs::Instructions::instruction_of))]
+fn instruction_of(
     alloc: Global,
-    row: u16,
+    row: InstructionRow,
     written: &Written<'_>,
-    parts: &[Part],
 ) -> Result<Option<Instr>, AllocError>
-    ensures { IfOk result (λ found. option_map parts_of found ≡ spec.by_parts row (written_seen written.now) parts.now) }
+    ensures { IfOk result (λ found. option_map parts_of found ≡ spec.instruction_of (row_seen row) (written_seen written.now)) }
 {
-    let Some(terms) = written.terms else {
-        return Ok(bare(alloc, row, parts));
-    };
-    if parts.is_empty() {
+    match written.terms {
+        Some(terms) => in_tuple(alloc, row, terms),
+        None => Ok(bare(alloc, row)),
+    }
+}
+
+/// A tuple of what the row's places ask.
+fn in_tuple(
+    alloc: Global,
+    row: InstructionRow,
+    terms: &[AsmTerm],
+) -> Result<Option<Instr>, AllocError>
+    ensures { IfOk result (λ found. option_map parts_of found ≡ spec.in_tuple (row_seen row) terms.now) }
+{
+    if row.places.is_empty() {
         return Ok(None);
     }
-    match operands_of(alloc, row, number_in(row, terms), parts, terms)? {
-        Some(operands) => Ok(Instr::make(row, operands)),
+    match operands_of(alloc, number_in(row.genop, terms), row.places, terms)? {
+        Some(operands) => Ok(Instr::make(row.number, operands)),
         None => Ok(None),
     }
 }
 
 /// An atom alone, of a row with nothing behind the name.
-fn bare(alloc: Global, row: u16, parts: &[Part]) -> Option<Instr>
-    ensures { option_map parts_of result ≡ spec.bare row parts.now }
+fn bare(alloc: Global, row: InstructionRow) -> Option<Instr>
+    ensures { option_map parts_of result ≡ spec.bare row.number row.places.now }
 {
-    if !parts.is_empty() {
+    if !row.places.is_empty() {
         return None;
     }
     let operands: Items<Operand> = Items::new(alloc);
-    Instr::make(row, operands)
+    Instr::make(row.number, operands)
 }

@@ -1,12 +1,16 @@
 //! The names in an instruction's form.
 
-ghost use Rattle.std.specs.Prelude.{◌≡◌, List, Option, option_map};
+ghost use Rattle.std.specs.Prelude.{◌≡◌, List, Option, Some, option_map, codes, if◌then◌else◌};
+ghost use Rattle.genop_table.specs.InstructionRows.{instruction_of};
+ghost use Rattle.genop_table.specs.Instructions.{spelling_of};
+ghost use Rattle.asm_module.specs.Terms.{is_word as is_that_word};
 ghost use Rattle.asm_module.specs.Instructions as spec;
 ghost use Rattle.asm_module.specs.Seen.{written_seen};
 
 use crate::terms::{atom, element_count, is_word, tagged};
-use beam_code::{holds_foreign, rows};
+use beam_code::holds_foreign;
 use ej_term::{AsmTerm, Text};
+use genop_table::{Genop, InstructionRow};
 
 /// An instruction as it is written: its name, and the terms behind it, none where it is an atom alone.
 #[derive(Clone, Copy)]
@@ -41,10 +45,10 @@ pub(crate) fn terms_of<'a>(written: &Written<'a>) -> &'a [AsmTerm]
 
 /// The first row of that name.
 #[tactic(auto, unfolding(crate::specs::Instructions::row_named))]
-pub(crate) fn row_named(name: &Text) -> Option<u16>
-    ensures { result ≡ spec.row_named name.now }
+pub(crate) fn row_named(name: &Text) -> Option<InstructionRow>
+    ensures { option_map instruction_of result ≡ spec.row_named name.now }
 {
-    genop_table::instruction(name.as_str().as_bytes())
+    genop_table::spelling(name.as_str().as_bytes(), 0)
 }
 
 /// Whether it is `{line,_}` or `{'%',_}`, in which anything may stand.
@@ -160,29 +164,25 @@ fn is_test(name: &Text) -> bool
     test_number(name).is_some()
 }
 
-/// Whether the instructions of the row may have that name in them.
-fn is_known_in(row: u16, terms: &[AsmTerm], name: &Text) -> bool
-    ensures { result ≡ spec.is_known_in row terms.now name.now }
+/// Whether the instruction may have that name in it.
+fn is_known_in(genop: Genop, terms: &[AsmTerm], name: &Text) -> bool
+    ensures { result ≡ spec.is_known_in genop terms.now name.now }
 {
-    if row == rows::TEST {
-        return is_test(name);
+    match genop {
+        Genop::Test => is_test(name),
+        Genop::Bif => is_bif(name, argument_count(2, terms)),
+        Genop::GcBif => is_guard_with(name, argument_count(3, terms)),
+        _ => true,
     }
-    if row == rows::BIF {
-        return is_bif(name, argument_count(2, terms));
-    }
-    if row == rows::GC_BIF {
-        return is_guard_with(name, argument_count(3, terms));
-    }
-    true
 }
 
 /// The name of what is no test, or no guard builtin of that arity.
 #[tactic(auto, unfolding(crate::specs::Instructions::stranger))]
-pub(crate) fn stranger(row: u16, terms: &[AsmTerm]) -> Option<&Text>
-    ensures { option_map (λ name. name.now) result ≡ spec.stranger row terms.now }
+pub(crate) fn stranger(genop: Genop, terms: &[AsmTerm]) -> Option<&Text>
+    ensures { option_map (λ name. name.now) result ≡ spec.stranger genop terms.now }
 {
     let name = named(terms)?;
-    if is_known_in(row, terms, name) {
+    if is_known_in(genop, terms, name) {
         return None;
     }
     Some(name)
@@ -191,47 +191,61 @@ pub(crate) fn stranger(row: u16, terms: &[AsmTerm]) -> Option<&Text>
 /// The row of an instruction whose first row by name is that one: `raise` under `bif` and `has_map_fields` under
 /// `test` have rows of their own.
 #[tactic(auto, unfolding(crate::specs::Instructions::row_of))]
-pub(crate) fn row_of(row: u16, terms: &[AsmTerm]) -> u16
-    ensures { result ≡ spec.row_of row terms.now }
+pub(crate) fn row_of(row: InstructionRow, terms: &[AsmTerm]) -> Option<InstructionRow>
+    ensures { option_map instruction_of result ≡ spec.row_of (instruction_of row) terms.now }
 {
     match named(terms) {
-        Some(name) => second_spelling(row, name),
-        None => row,
+        Some(name) => row_with(row, name),
+        None => Some(row),
     }
 }
 
-fn second_spelling(row: u16, name: &Text) -> u16
-    ensures { result ≡ spec.second_spelling row name.now }
+fn row_with(row: InstructionRow, name: &Text) -> Option<InstructionRow>
+    ensures { option_map instruction_of result ≡ spec.row_with row.genop (instruction_of row) name.now }
 {
-    match row {
-        rows::BIF if is_word(name, "raise") => rows::RAISE,
-        rows::TEST if is_word(name, "has_map_fields") => rows::HAS_MAP_FIELDS,
-        _ => row,
+    match row.genop {
+        Genop::Bif => raise_or(row, name),
+        Genop::Test => has_map_fields_or(row, name),
+        _ => Some(row),
     }
+}
+
+fn raise_or(row: InstructionRow, name: &Text) -> Option<InstructionRow>
+    ensures { option_map instruction_of result ≡ (if is_that_word name.now (codes "raise") then spelling_of (codes "bif") 1 else Some (instruction_of row)) }
+{
+    if is_word(name, "raise") {
+        return genop_table::spelling(b"bif", 1);
+    }
+    Some(row)
+}
+
+fn has_map_fields_or(row: InstructionRow, name: &Text) -> Option<InstructionRow>
+    ensures { option_map instruction_of result ≡ (if is_that_word name.now (codes "has_map_fields") then spelling_of (codes "test") 1 else Some (instruction_of row)) }
+{
+    if is_word(name, "has_map_fields") {
+        return genop_table::spelling(b"test", 1);
+    }
+    Some(row)
 }
 
 /// The number of the test or guard builtin of that name.
-fn number_for(row: u16, terms: &[AsmTerm], name: &Text) -> Option<u16>
-    ensures { result ≡ spec.number_for row terms.now name.now }
+fn number_for(genop: Genop, terms: &[AsmTerm], name: &Text) -> Option<u16>
+    ensures { result ≡ spec.number_for genop terms.now name.now }
 {
-    if row == rows::TEST {
-        return test_number(name);
+    match genop {
+        Genop::Test => test_number(name),
+        Genop::Bif => guard_number(name, argument_count(2, terms)?),
+        Genop::GcBif => guard_number(name, argument_count(3, terms)?),
+        _ => Some(0),
     }
-    if row == rows::BIF {
-        return guard_number(name, argument_count(2, terms)?);
-    }
-    if row == rows::GC_BIF {
-        return guard_number(name, argument_count(3, terms)?);
-    }
-    Some(0)
 }
 
 /// The number of the test or guard builtin that the form names, 0 where it names none.
-pub(crate) fn number_in(row: u16, terms: &[AsmTerm]) -> u16
-    ensures { result ≡ spec.number_in row terms.now }
+pub(crate) fn number_in(genop: Genop, terms: &[AsmTerm]) -> u16
+    ensures { result ≡ spec.number_in genop terms.now }
 {
     match named(terms) {
-        Some(name) => number_for(row, terms, name).unwrap_or(0),
+        Some(name) => number_for(genop, terms, name).unwrap_or(0),
         None => 0,
     }
 }

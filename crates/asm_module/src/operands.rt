@@ -2,15 +2,15 @@
 
 ghost use Rattle.std.specs.Prelude.{◌≡◌, ◌++◌, List, [], codes, Option, option_map, option_and_then, unwrap_or, IfOk};
 ghost use Rattle.std.specs.Option.{is_some};
-ghost use Rattle.asm_module.specs.Terms.{each};
+ghost use Rattle.asm_module.specs.Terms.{each, elements as elements_of};
 ghost use Rattle.asm_module.specs.Elements.{elements_seen};
 ghost use Rattle.asm_module.specs.Operands as spec;
 
 use crate::lists::{arities, cases, gets, listed, pairs, registers, sized, sources};
-use crate::terms::{ListOf, atom, behind, elements, integer, is_word, number, pair, tagged};
-use beam_code::{Operand, Reg, Src, rows};
+use crate::terms::{atom, behind, elements, integer, is_word, number, pair, tagged};
+use beam_code::{LAST_COUNT, LAST_REGISTER, Operand, Reg, Src};
 use ej_term::{AsmTerm, Text};
-use genop_table::Part;
+use genop_table::{Limit, Part, Place, TestArguments};
 use sqlite_items::Items;
 use std::alloc::{AllocError, Global};
 
@@ -19,13 +19,13 @@ fn register_named(name: &Text, part: &AsmTerm) -> Option<Reg>
     ensures { result ≡ spec.register_named (name.now, part.now) }
 {
     if is_word(name, "x") {
-        return match number(1023, part) {
+        return match number(u32::from(LAST_REGISTER), part) {
             Some(number) => Some(Reg::X(number as u16)),
             None => None,
         };
     }
     if is_word(name, "y") {
-        return match number(1023, part) {
+        return match number(u32::from(LAST_REGISTER), part) {
             Some(number) => Some(Reg::Y(number as u16)),
             None => None,
         };
@@ -48,7 +48,7 @@ pub(crate) fn label_of(term: &AsmTerm) -> Option<u32>
     ensures { result ≡ spec.label_of term.now }
 {
     match behind("f", term) {
-        Some(label) => number(u32::MAX, label),
+        Some(label) => number(LAST_COUNT, label),
         None => None,
     }
 }
@@ -57,7 +57,7 @@ pub(crate) fn label_of(term: &AsmTerm) -> Option<u32>
 fn count_of(term: &AsmTerm) -> Option<u32>
     ensures { result ≡ spec.count_of term.now }
 {
-    number(u32::MAX, term)
+    number(LAST_COUNT, term)
 }
 
 /// A source of that name.
@@ -156,49 +156,77 @@ fn external_of(term: &AsmTerm) -> Result<Option<Operand>, AllocError>
     }
 }
 
-/// The terms of a list of sources: of the arguments of tests and builtins a list, and else `{list,L}`.
-fn source_list(alloc: Global, row: u16, term: &AsmTerm) -> Result<Option<ListOf<'_>>, AllocError>
-    ensures { IfOk result (λ found. option_map elements_seen found ≡ spec.sources_in row term.now) }
+/// The elements of a list as sources, of the arguments of a builtin or of `raise`.
+fn plain_sources(alloc: Global, term: &AsmTerm) -> Result<Option<Items<Src>>, AllocError>
+    ensures { IfOk result (λ found. found ≡ option_and_then (each spec.source_of) (elements_of term.now)) }
 {
-    match row {
-        rows::BIF | rows::GC_BIF | rows::TEST | rows::RAISE => elements(alloc, term),
-        _ => listed(alloc, term),
+    match elements(alloc, term)? {
+        Some(terms) => sources(alloc, terms.as_slice()),
+        None => Ok(None),
     }
 }
 
-/// A list of sources, behind the test or builtin of that number.
-fn sources_of(
+/// The sources of `{list,L}`.
+fn listed_sources(alloc: Global, term: &AsmTerm) -> Result<Option<Items<Src>>, AllocError>
+    ensures { IfOk result (λ found. found ≡ option_and_then (each spec.source_of) (spec.listed term.now)) }
+{
+    match listed(alloc, term)? {
+        Some(terms) => sources(alloc, terms.as_slice()),
+        None => Ok(None),
+    }
+}
+
+/// The elements of a list as sources, of the arguments of a test.
+fn test_sources(
     alloc: Global,
-    row: u16,
-    number: u16,
+    takes: Option<TestArguments>,
     term: &AsmTerm,
 ) -> Result<Option<Items<Src>>, AllocError>
-    ensures { IfOk result (λ found. found ≡ option_and_then (spec.arguments_of row number) (spec.sources_in row term.now)) }
+    ensures { IfOk result (λ found. found ≡ option_and_then (spec.test_sources takes) (elements_of term.now)) }
 {
-    let Some(terms) = source_list(alloc, row, term)? else {
+    let Some(terms) = elements(alloc, term)? else {
         return Ok(None);
     };
-    if takes_size(row, number) {
+    if takes_size(takes) {
         return sized(alloc, terms.as_slice());
     }
     sources(alloc, terms.as_slice())
 }
 
-fn takes_size(row: u16, number: u16) -> bool
-    ensures { result ≡ spec.takes_size row number }
+fn takes_size(takes: Option<TestArguments>) -> bool
+    ensures { result ≡ spec.takes_size takes }
 {
-    row == rows::TEST && (number == rows::TEST_ARITY || number == rows::IS_TAGGED_TUPLE)
+    matches!(
+        takes,
+        Some(TestArguments::SourceAndSize | TestArguments::SourceSizeAndTag)
+    )
+}
+
+/// A list of sources, behind the test or builtin of that number.
+fn sources_of(
+    alloc: Global,
+    limit: Limit,
+    number: u16,
+    term: &AsmTerm,
+) -> Result<Option<Items<Src>>, AllocError>
+    ensures { IfOk result (λ found. found ≡ spec.sources_of limit number term.now) }
+{
+    match limit {
+        Limit::OfTest => test_sources(alloc, genop_table::test_arguments(number), term),
+        Limit::OfBuiltin | Limit::OfRaise => plain_sources(alloc, term),
+        _ => listed_sources(alloc, term),
+    }
 }
 
 /// The operand at a place of the shape; the number is that of the test or builtin that the form names.
 fn operand_of(
     alloc: Global,
-    row: u16,
+    limit: Limit,
     number: u16,
     part: Part,
     term: &AsmTerm,
 ) -> Result<Option<Operand>, AllocError>
-    ensures { IfOk result (λ found. found ≡ spec.operand_of row number part term.now) }
+    ensures { IfOk result (λ found. found ≡ spec.operand_of limit number part term.now) }
 {
     Ok(match part {
         Part::Src => source_of(alloc, term)?.map(Operand::Src),
@@ -207,7 +235,7 @@ fn operand_of(
         Part::Count => count_of(term).map(Operand::Count),
         Part::Name => Some(Operand::Name(number)),
         Part::Ext => external_of(term)?,
-        Part::Srcs => sources_of(alloc, row, number, term)?.map(Operand::Srcs),
+        Part::Srcs => sources_of(alloc, limit, number, term)?.map(Operand::Srcs),
         Part::Cases => cases(alloc, term)?.map(Operand::Cases),
         Part::Arities => arities(alloc, term)?.map(Operand::Cases),
         Part::Pairs => pairs(alloc, term)?.map(Operand::Pairs),
@@ -229,18 +257,18 @@ fn is_need(term: &AsmTerm) -> bool
 fn push_kept(
     alloc: Global,
     operands: &mut Items<Operand>,
-    row: u16,
+    limit: Limit,
     number: u16,
     part: Part,
     term: &AsmTerm,
 ) -> Result<bool, AllocError>
-    ensures told { IfOk result (λ kept. kept ≡ is_some (spec.kept_of row number part term.now)) }
-    ensures pushed { IfOk result (λ kept. operands.new ≡ operands.old ++ unwrap_or (spec.kept_of row number part term.now) []) }
+    ensures told { IfOk result (λ kept. kept ≡ is_some (spec.kept_of limit number part term.now)) }
+    ensures pushed { IfOk result (λ kept. operands.new ≡ operands.old ++ unwrap_or (spec.kept_of limit number part term.now) []) }
 {
     match part {
         Part::Need => Ok(is_need(term)),
         Part::Any => Ok(true),
-        _ => push_operand(operands, operand_of(alloc, row, number, part, term)?),
+        _ => push_operand(operands, operand_of(alloc, limit, number, part, term)?),
     }
 }
 
@@ -257,23 +285,22 @@ fn push_operand(operands: &mut Items<Operand>, operand: Option<Operand>) -> Resu
     }
 }
 
-/// The operands of the terms behind an instruction's name, by the parts of its row's shape.
+/// The operands of the terms behind an instruction's name, by the places of its row.
 pub(crate) fn operands_of(
     alloc: Global,
-    row: u16,
     number: u16,
-    parts: &[Part],
+    places: &[Place],
     terms: &[AsmTerm],
 ) -> Result<Option<Items<Operand>>, AllocError>
-    ensures { IfOk result (λ found. found ≡ spec.operands_of row number parts.now terms.now) }
+    ensures { IfOk result (λ found. found ≡ spec.operands_of number places.now terms.now) }
 {
     let mut operands = Items::new(alloc);
     let mut rest = terms;
-    for part in parts {
+    for place in places {
         let Some((term, behind)) = rest.split_first() else {
             return Ok(None);
         };
-        if !push_kept(alloc, &mut operands, row, number, *part, term)? {
+        if !push_kept(alloc, &mut operands, place.limit, number, place.part, term)? {
             return Ok(None);
         }
         rest = behind;

@@ -1,27 +1,11 @@
 -- A file has one row of forms at most, or one first fault, and not both.
-use Rattle.std.proofs.Common.{◌≡◌, inl, inr, ℕ, zero, suc, Bool, true, false, List, [], ◌∷◌, Option, None, Some, refl, sym, ap, ◌∙◌, subst}
+use Rattle.std.proofs.Common.{◌≡◌, inl, inr, ℕ, zero, suc, Bool, true, false, List, [], ◌∷◌, refl, sym, ap, ◌∙◌, subst}
 use Rattle.ej_term.specs.declared.asm_term.AsmTerm.{AsmTerm}
-use Rattle.asm_terms.specs.declared.token.Token.{Token}
 use Rattle.asm_terms.specs.Characters.{characters}
 use Rattle.asm_terms.specs.Grammar.{IsTerm, too_deep}
-use Rattle.asm_terms.specs.Tokens.{form_tokens}
 use Rattle.asm_terms.specs.Forms.{IsForm, AreFormsOf, Cause, BadText, TooDeep, Refused, RefusedAt, OneReading}
 use Rattle.asm_terms.proofs.GrammarLaw.{one_term}
-
-some_value : {A : Type 0} → A → Option A → A
-some_value default None = default
-some_value default (Some x) = x
-
--- the tokens of a form, and the text behind it, are one
-pub same_spelling : (o : Option (List Token × List ℕ)) (ts us : List Token) (rest rest' : List ℕ)
-    → o ≡ Some (ts, rest) → o ≡ Some (us, rest') → (ts ≡ us) × (rest ≡ rest')
-unfolding some_value
-same_spelling o ts us rest rest' e f =
-    let same = ap (some_value ([], [])) (sym e ∙ f) in
-    (ap (λ p. p.0) same, ap (λ p. p.1) same)
-
-pub not_spelled : (o : Option (List Token × List ℕ)) (ts : List Token) (rest : List ℕ) → o ≡ None → o ≡ Some (ts, rest) → ⊥
-not_spelled o ts rest e f = cc
+use Rattle.asm_terms.proofs.SplitLaw.{one_split}
 
 not_both_depths : (b : Bool) → b ≡ true → b ≡ false → ⊥
 not_both_depths b e f = cc
@@ -29,25 +13,25 @@ not_both_depths b e f = cc
 -- a text begins with one form at most
 pub one_form : (text : List ℕ) (f g : AsmTerm) (rest rest' : List ℕ) → IsForm text f rest → IsForm text g rest' → (f ≡ g) × (rest ≡ rest')
 one_form text f g rest rest' a b =
-    let same = same_spelling (form_tokens text) a.tokens b.tokens rest rest' a.spelled b.spelled in
+    let same = one_split text a.tokens b.tokens rest rest' a.spelled b.spelled in
     ((one_term a.is_term (subst (λ ts. IsTerm ts g []) (sym same.0) b.is_term)).0, same.1)
 
 -- a text that begins with a form is not refused
 pub not_refused : (text : List ℕ) (f : AsmTerm) (rest : List ℕ) (cause : Cause) → IsForm text f rest → Refused text cause → ⊥
 not_refused text f rest TooDeep a r =
-    let same = same_spelling (form_tokens text) a.tokens r.1.tokens rest r.1.rest a.spelled r.1.spelled in
+    let same = one_split text a.tokens r.1.tokens rest r.1.rest a.spelled r.1.spelled in
     not_both_depths (too_deep a.tokens) (ap too_deep same.0 ∙ r.1.deep) a.shallow
 not_refused text f rest BadText a r = elim r.1 [
-  | inl none ↦ not_spelled (form_tokens text) a.tokens rest none a.spelled
-  | inr s ↦ let same = same_spelling (form_tokens text) a.tokens s.tokens rest s.rest a.spelled s.spelled in
+  | inl none ↦ none a.tokens rest a.spelled
+  | inr s ↦ let same = one_split text a.tokens s.tokens rest s.rest a.spelled s.spelled in
       s.no_term f (subst (λ ts. IsTerm ts f []) same.0 a.is_term)
 ]
 
 -- a form that is too deep has tokens and is not bad text
 deep_is_not_bad : (text : List ℕ) → Refused text TooDeep → Refused text BadText → ⊥
 deep_is_not_bad text r s = elim s.1 [
-  | inl none ↦ not_spelled (form_tokens text) r.1.tokens r.1.rest none r.1.spelled
-  | inr n ↦ let same = same_spelling (form_tokens text) r.1.tokens n.tokens r.1.rest n.rest r.1.spelled n.spelled in
+  | inl none ↦ none r.1.tokens r.1.rest r.1.spelled
+  | inr n ↦ let same = one_split text r.1.tokens n.tokens r.1.rest n.rest r.1.spelled n.spelled in
       not_both_depths (too_deep r.1.tokens) r.1.deep (ap too_deep same.0 ∙ n.shallow)
 ]
 
@@ -87,6 +71,7 @@ one_fault text (suc n) (suc m) cause cause' r s =
 
 pub one_reading : (bytes : List ℕ) → OneReading bytes
 one_reading bytes = record {
+  one_split = one_split;
   same_forms = same_rows (characters bytes);
   not_both = no_fault (characters bytes);
   same_fault = one_fault (characters bytes);

@@ -1,5 +1,5 @@
 -- What was read of a text, and what is left of it.
-use Rattle.std.proofs.Common.{◌≡◌, ◌≢◌, ℕ, ◌<◌, List, [], ◌∷◌, ◌++◌, length, Option, None, Some, Result, Ok, Err, refl, sym, ap, ◌∙◌, subst}
+use Rattle.std.proofs.Common.{◌≡◌, ℕ, ◌<◌, List, [], ◌∷◌, ◌++◌, length, Option, None, Some, Result, Ok, Err, refl, sym, ◌∙◌, subst}
 use Rattle.std.specs.Result.{IsErrAnd}
 use Rattle.std.specs.declared.vec.Vec.{Vec}
 use Rattle.ej_term.specs.declared.asm_term.AsmTerm.{AsmTerm}
@@ -7,13 +7,14 @@ use Rattle.asm_terms.specs.declared.fault.TextFault.{TextFault}
 use Rattle.asm_terms.specs.declared.fault.TextFault.TheVariants as fault
 use Rattle.asm_terms.specs.declared.token.Token.{Token}
 use Rattle.asm_terms.specs.Characters.{characters}
-use Rattle.asm_terms.specs.Tokens.{skip_blank}
+use Rattle.asm_terms.specs.Splitting.{IsEnd, HasMore}
 use Rattle.asm_terms.specs.TermReader.{term_of}
 use Rattle.asm_terms.specs.Forms.{IsForm, AreFormsOf, Refused, RefusedAt, Cause, BadText, TooDeep, Reads}
 use Rattle.asm_terms.specs.FormRead.{Spells, ReadsForm, ReadsText}
 use Rattle.asm_terms.proofs.SpelledIsRead.{spelled_is_read}
 use Rattle.asm_terms.proofs.ReadIsSpelled.{read_is_spelled}
 use Rattle.asm_terms.proofs.TokenLemmas.{form_leaves}
+use Rattle.asm_terms.proofs.SplitLaw.{walked}
 
 none_is_some : {x : AsmTerm} → ◌≡◌ {A = Option AsmTerm} None (Some x) → ⊥
 none_is_some e = cc
@@ -26,16 +27,16 @@ spelled_by tokens (Some t) e = read_is_spelled tokens t (sym e)
 -- a text is these forms one behind the other, and then that text
 abbrev pub BeginsWith : List ℕ → List AsmTerm → List ℕ → Type 0
 BeginsWith text [] rest = text ≡ rest
-BeginsWith text (form ∷ forms) rest = (skip_blank text ≢ []) × (behind : List ℕ) × IsForm text form behind × BeginsWith behind forms rest
+BeginsWith text (form ∷ forms) rest = HasMore text × (behind : List ℕ) × IsForm text form behind × BeginsWith behind forms rest
 
 pub one_form_more : (text : List ℕ) (forms : List AsmTerm) (form : AsmTerm) (middle rest : List ℕ)
-    → BeginsWith text forms middle → skip_blank middle ≢ [] → IsForm middle form rest → BeginsWith text (forms ++ form ∷ []) rest
+    → BeginsWith text forms middle → HasMore middle → IsForm middle form rest → BeginsWith text (forms ++ form ∷ []) rest
 one_form_more text [] form middle rest b h f =
-    (subst (λ t. skip_blank t ≢ []) (sym b) h, rest, subst (λ t. IsForm t form rest) (sym b) f, refl)
+    (subst HasMore (sym b) h, rest, subst (λ t. IsForm t form rest) (sym b) f, refl)
 one_form_more text (first ∷ forms) form middle rest b h f = (b.0, b.1, b.2, one_form_more b.1 forms form middle rest b.3 h f)
 
-pub all_forms : (text : List ℕ) (forms : List AsmTerm) (rest : List ℕ) → BeginsWith text forms rest → skip_blank rest ≡ [] → AreFormsOf text forms
-all_forms text [] rest b h = ap skip_blank b ∙ h
+pub all_forms : (text : List ℕ) (forms : List AsmTerm) (rest : List ℕ) → BeginsWith text forms rest → IsEnd rest → AreFormsOf text forms
+all_forms text [] rest b h = subst IsEnd (sym b) h
 all_forms text (form ∷ forms) rest b h = (b.0, b.1, b.2, all_forms b.1 forms rest b.3 h)
 
 pub first_fault : (text : List ℕ) (forms : List AsmTerm) (rest : List ℕ) (cause : Cause) → BeginsWith text forms rest → Refused rest cause
@@ -45,7 +46,7 @@ first_fault text (form ∷ forms) rest cause b r = (b.0, form, b.1, b.2, first_f
 
 -- a fault of the form behind these is the text's
 pub fault_behind : (A : Type 0) (text : List ℕ) (forms : List AsmTerm) (rest : List ℕ) (number : ℕ) (e : TextFault) (after : List ℕ)
-    → BeginsWith text forms rest → skip_blank rest ≢ [] → number ≡ length forms → ReadsForm rest number (Err e) after → ReadsText {A = A} text (Err e)
+    → BeginsWith text forms rest → HasMore rest → number ≡ length forms → ReadsForm rest number (Err e) after → ReadsText {A = A} text (Err e)
 fault_behind A text forms rest number (fault.BadText form) after b h n r =
     subst (λ at. RefusedAt text at BadText) (sym (r.0 ∙ n)) (first_fault text forms rest BadText b (h, r.1))
 fault_behind A text forms rest number (fault.TooDeep form) after b h n r =
@@ -66,4 +67,4 @@ reads_characters bytes text (Err fault.NoMemory) e r = tt
 
 -- behind a form less is left
 pub is_shorter : (text : List ℕ) (form : AsmTerm) (rest : List ℕ) → IsForm text form rest → length rest < length text
-is_shorter text form rest f = form_leaves text rest f.tokens f.spelled
+is_shorter text form rest f = form_leaves text rest f.tokens (walked f.spelled)

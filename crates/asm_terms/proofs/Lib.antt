@@ -1,5 +1,7 @@
 pub mod GrammarLaw
 pub mod FormsLaw
+mod JoinLemmas
+pub mod SplitLaw
 mod SpelledIsRead
 mod ReadIsSpelled
 pub mod TextLemmas

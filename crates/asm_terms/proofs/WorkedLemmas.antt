@@ -7,10 +7,11 @@ use Rattle.asm_terms.specs.TermReader.{list_before}
 use Rattle.asm_terms.specs.declared.token.Token.{Token}
 use Rattle.asm_terms.specs.declared.token.Token.TheVariants as token
 use Rattle.asm_terms.proofs.ReadIsSpelled.{read_is_spelled}
+use Rattle.asm_terms.proofs.SplitLaw.{has_tokens}
 use Rattle.std.specs.Str.{chars, is_utf8}
 use Rattle.asm_terms.specs.Quotes.{quoted_from}
 use Rattle.asm_terms.specs.Tokens.{tokens_from}
-use Rattle.asm_terms.specs.Worked.{LargestIntegers, LargerInteger, Floats, NoSign, Escapes, NoSurrogate, JoinedStrings, QuotesInBinary, Identifiers, NoPid, FullStop, NoFullStop, Utf8, Latin1, ContinuedList, Deepest, TooDeep, RoomBeforehand}
+use Rattle.asm_terms.specs.Worked.{LargestIntegers, LargerInteger, Floats, NoSign, Escapes, NoSurrogate, JoinedStrings, QuotesInBinary, Identifiers, NoPid, FullStop, NoFullStop, CommentEnd, Utf8, Latin1, ContinuedList, Deepest, TooDeep, RoomBeforehand}
 
 pub largest_integers : LargestIntegers
 unfolding tokens_from quoted_from
@@ -60,6 +61,9 @@ pub no_full_stop : NoFullStop
 unfolding tokens_from quoted_from
 no_full_stop = refl
 
+pub comment_end : CommentEnd
+comment_end = refl
+
 pub utf8 : Utf8
 unfolding chars is_utf8 encode
 utf8 = refl
@@ -78,7 +82,7 @@ pub continued_list : ContinuedList
 unfolding tokens_from quoted_from
 continued_list = record {
   tokens = list_tokens;
-  spelled = refl;
+  spelled = has_tokens (codes "[1|[2|\"ab\"]]. c") list_tokens (codes " c") refl;
   shallow = refl;
   is_term =
       read_is_spelled list_tokens

@@ -7,6 +7,7 @@ pub mod Quotes
 pub mod Binaries
 pub mod Identifiers
 pub mod Tokens
+pub mod Splitting
 pub mod Reading
 pub mod Grammar
 pub mod Forms

@@ -5,6 +5,7 @@ use Rattle.asm_terms.specs.declared.token.Token.TheVariants as token
 use Rattle.asm_terms.specs.Characters.{characters}
 use Rattle.asm_terms.specs.Forms.{IsForm}
 use Rattle.asm_terms.specs.Grammar.{too_deep}
+use Rattle.asm_terms.specs.Splitting.{behind_line}
 use Rattle.asm_terms.specs.Tokens.{form_tokens}
 
 abbrev pub LargestIntegers : Type 0
@@ -46,6 +47,10 @@ FullStop = form_tokens (codes "fun a.'fun'.%") ≡ Some (token.Fun ∷ token.Ato
 
 abbrev pub NoFullStop : Type 0
 NoFullStop = form_tokens (codes "{a%.\n}") ≡ None
+
+-- a comment ends at the character 10, and not at 13
+abbrev pub CommentEnd : Type 0
+CommentEnd = behind_line (98 ∷ 13 ∷ 99 ∷ 10 ∷ 100 ∷ []) ≡ 100 ∷ []
 
 abbrev pub Utf8 : Type 0
 Utf8 = characters (39 ∷ 0xc3 ∷ 0xa9 ∷ 39 ∷ []) ≡ 39 ∷ 0xe9 ∷ 39 ∷ []

@@ -11,7 +11,7 @@ use crate::token::Token;
 use std::alloc::{AllocError, Global};
 
 /// Where in a binary's characters a place is.
-#[derive(Clone, Copy, Debug)]
+#[derive(Clone, Copy)]
 pub(crate) enum Place {
     Outside,
     InQuotes,

@@ -13,7 +13,7 @@ pub enum TextFault {
     #[error("form {form}: too deep")]
     TooDeep { form: usize },
     /// Memory was wanting.
-    #[error("no memory")]
+    #[error("out of memory")]
     NoMemory,
 }
 

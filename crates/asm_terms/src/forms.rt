@@ -1,10 +1,10 @@
 //! A file's bytes to the row of its forms.
 
-ghost use Rattle.std.specs.Prelude.{◌≡◌, ◌≢◌, [], ◌∷◌, ◌++◌, MatchBool, OnOk};
+ghost use Rattle.std.specs.Prelude.{◌≡◌, [], ◌∷◌, ◌++◌, MatchBool, OnOk};
 ghost use Rattle.std.specs.Str.{chars};
 ghost use Rattle.asm_terms.specs.Forms.{Reads, OneReading};
 ghost use Rattle.asm_terms.specs.FormRead.{ReadsForm, ReadsText};
-ghost use Rattle.asm_terms.specs.Tokens as tokens;
+ghost use Rattle.asm_terms.specs.Splitting.{IsEnd, HasMore};
 
 use crate::TextFault;
 use crate::blank::skip_blank;
@@ -52,7 +52,7 @@ fn forms_of(alloc: Global, text: &str) -> Result<Vec<AsmTerm>, TextFault>
 
 /// Whether no more than space and comments is left.
 fn has_ended(reader: &Reader<'_>) -> bool
-    ensures { MatchBool result (tokens.skip_blank reader.now ≡ []) (tokens.skip_blank reader.now ≢ []) }
+    ensures { MatchBool result (IsEnd reader.now) (HasMore reader.now) }
 {
     let mut ahead = reader.ahead();
     skip_blank(&mut ahead);

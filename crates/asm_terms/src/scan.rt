@@ -2,9 +2,10 @@
 
 ghost use Rattle.std.specs.Prelude.{◌≡◌, IfOk, OnOk, codes, ◌++◌};
 ghost use Rattle.asm_terms.specs.Reading.{TakesStop, with_rest};
+ghost use Rattle.asm_terms.specs.FormRead.{SplitsForm};
 ghost use Rattle.asm_terms.specs.declared.token.Token.TheVariants as token;
 ghost use Rattle.asm_terms.specs.Blanks.{ends_form as form_ends};
-ghost use Rattle.asm_terms.specs.Tokens.{token_at as first_token, mark as mark_token, with_token, joined, negative as negative_at, quoted_atom as quoted_atom_at, string as string_at, binary_behind as binary_at, form_tokens as tokens_of_form};
+ghost use Rattle.asm_terms.specs.Tokens.{token_at as first_token, mark as mark_token, with_token, joined, negative as negative_at, quoted_atom as quoted_atom_at, string as string_at, binary_behind as binary_at};
 
 use crate::binary::binary;
 use crate::blank::{is_blank, skip_blank};
@@ -25,7 +26,7 @@ pub(crate) fn form_tokens(
     alloc: Global,
     reader: &mut Reader<'_>,
 ) -> Result<Option<Row<Token>>, AllocError>
-    ensures { IfOk result (λ tokens. tokens_of_form reader.old ≡ with_rest tokens reader.new) }
+    ensures { IfOk result (λ found. SplitsForm reader.old found reader.new) }
 {
     let mut tokens = Row::new(alloc);
     let mut spelled = Spelling::new(alloc);

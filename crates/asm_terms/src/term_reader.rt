@@ -160,23 +160,23 @@ fn join(stack: Stack<Opened>) -> Step
 fn go_on(alloc: Global, stack: Stack<Opened>, term: AsmTerm, token: Token) -> Step
     ensures { IfOk result (λ next. next ≡ read.gone_on stack term token) }
 {
+    let Some((top, stack)) = stack.pop() else {
+        return Ok(None);
+    };
     match token {
-        Token::Comma => comma(stack, term),
-        Token::CloseTuple => brace(stack, term),
-        Token::CloseList => bracket(alloc, stack, term),
-        Token::Bar => bar(stack, term),
-        Token::Arrow => arrow(stack, term),
+        Token::Comma => comma(top, stack, term),
+        Token::CloseTuple => brace(top, stack, term),
+        Token::CloseList => bracket(alloc, top, stack, term),
+        Token::Bar => bar(top, stack, term),
+        Token::Arrow => arrow(top, stack, term),
         _ => Ok(None),
     }
 }
 
-/// Behind a term and a comma.
-fn comma(stack: Stack<Opened>, term: AsmTerm) -> Step
-    ensures { IfOk result (λ next. next ≡ read.comma stack term) }
+/// Behind a term and a comma, in what was opened last.
+fn comma(top: Opened, stack: Stack<Opened>, term: AsmTerm) -> Step
+    ensures { IfOk result (λ next. next ≡ read.comma (top ∷ stack) term) }
 {
-    let Some((top, stack)) = stack.pop() else {
-        return Ok(None);
-    };
     match top {
         Opened::Tuple(parts) => open(stack, Opened::Tuple(with(parts, term)?), Last::Mark),
         Opened::List(elements) => open(stack, Opened::List(with(elements, term)?), Last::Mark),
@@ -189,13 +189,10 @@ fn comma(stack: Stack<Opened>, term: AsmTerm) -> Step
     }
 }
 
-/// Behind a term and `}`.
-fn brace(stack: Stack<Opened>, term: AsmTerm) -> Step
-    ensures { IfOk result (λ next. next ≡ read.brace stack term) }
+/// Behind a term and `}`, in what was opened last.
+fn brace(top: Opened, stack: Stack<Opened>, term: AsmTerm) -> Step
+    ensures { IfOk result (λ next. next ≡ read.brace (top ∷ stack) term) }
 {
-    let Some((top, stack)) = stack.pop() else {
-        return Ok(None);
-    };
     match top {
         Opened::Tuple(parts) => Ok(whole(stack, AsmTerm::Tuple(with(parts, term)?))),
         Opened::Value(pairs, key) => Ok(whole(stack, AsmTerm::Map(with(pairs, (key, term))?))),
@@ -203,13 +200,10 @@ fn brace(stack: Stack<Opened>, term: AsmTerm) -> Step
     }
 }
 
-/// Behind a term and `]`.
-fn bracket(alloc: Global, stack: Stack<Opened>, term: AsmTerm) -> Step
-    ensures { IfOk result (λ next. next ≡ read.bracket stack term) }
+/// Behind a term and `]`, in what was opened last.
+fn bracket(alloc: Global, top: Opened, stack: Stack<Opened>, term: AsmTerm) -> Step
+    ensures { IfOk result (λ next. next ≡ read.bracket (top ∷ stack) term) }
 {
-    let Some((top, stack)) = stack.pop() else {
-        return Ok(None);
-    };
     match top {
         Opened::List(elements) => Ok(whole(stack, AsmTerm::List(with(elements, term)?, None))),
         Opened::Tail(elements) => Ok(whole(stack, list_before(alloc, elements, term)?)),
@@ -218,26 +212,20 @@ fn bracket(alloc: Global, stack: Stack<Opened>, term: AsmTerm) -> Step
     }
 }
 
-/// Behind a term and `|`.
-fn bar(stack: Stack<Opened>, term: AsmTerm) -> Step
-    ensures { IfOk result (λ next. next ≡ read.bar stack term) }
+/// Behind a term and `|`, in what was opened last.
+fn bar(top: Opened, stack: Stack<Opened>, term: AsmTerm) -> Step
+    ensures { IfOk result (λ next. next ≡ read.bar (top ∷ stack) term) }
 {
-    let Some((top, stack)) = stack.pop() else {
-        return Ok(None);
-    };
     match top {
         Opened::List(elements) => open(stack, Opened::Tail(with(elements, term)?), Last::Bar),
         _ => Ok(None),
     }
 }
 
-/// Behind a term and `=>`.
-fn arrow(stack: Stack<Opened>, term: AsmTerm) -> Step
-    ensures { IfOk result (λ next. next ≡ read.arrow stack term) }
+/// Behind a term and `=>`, in what was opened last.
+fn arrow(top: Opened, stack: Stack<Opened>, term: AsmTerm) -> Step
+    ensures { IfOk result (λ next. next ≡ read.arrow (top ∷ stack) term) }
 {
-    let Some((top, stack)) = stack.pop() else {
-        return Ok(None);
-    };
     match top {
         Opened::Key(pairs) => open(stack, Opened::Value(pairs, term), Last::Mark),
         _ => Ok(None),

@@ -4,7 +4,7 @@ use ej_term::Text;
 use sqlite_items::Items;
 
 /// A token. Space and comments stand between tokens and are none.
-#[derive(Debug, Drop)]
+#[derive(Drop)]
 pub enum Token {
     /// An integer of 64 bits.
     Int(i64),

@@ -1,6 +1,6 @@
 //! Worked texts, as facts about the definitions of characters, tokens, terms and depth.
 
-ghost use Rattle.asm_terms.specs.Worked.{LargestIntegers, LargerInteger, Floats, NoSign, Escapes, NoSurrogate, JoinedStrings, QuotesInBinary, Identifiers, NoPid, FullStop, NoFullStop, Utf8, Latin1, ContinuedList, Deepest, TooDeep, RoomBeforehand};
+ghost use Rattle.asm_terms.specs.Worked.{LargestIntegers, LargerInteger, Floats, NoSign, Escapes, NoSurrogate, JoinedStrings, QuotesInBinary, Identifiers, NoPid, FullStop, NoFullStop, CommentEnd, Utf8, Latin1, ContinuedList, Deepest, TooDeep, RoomBeforehand};
 
 /// Does nothing: its contract is what worked texts mean by the definitions.
 pub fn worked_texts()
@@ -16,6 +16,7 @@ pub fn worked_texts()
     ensures no_pid { NoPid }
     ensures full_stop { FullStop }
     ensures no_full_stop { NoFullStop }
+    ensures comment_end { CommentEnd }
     ensures utf8 { Utf8 }
     ensures latin1 { Latin1 }
     ensures continued_list { ContinuedList }

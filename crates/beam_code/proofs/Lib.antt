@@ -1,6 +1,5 @@
-mod FitsLemmas
 pub mod ForeignLemmas
+pub mod FirstBreak
+pub mod Known
 pub mod SameCode
-pub mod LabelsLaw
 pub mod PartsLaw
-pub mod AcceptedRules

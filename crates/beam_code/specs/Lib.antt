@@ -1,11 +1,11 @@
 pub mod Foreign
 pub mod Fits
 pub mod Opcode
+pub mod Decoded
+pub mod Seen
 pub mod Keys
 pub mod Parts
-pub mod LabelRules
+pub mod Code
 pub mod Labels
-pub mod Slots
-pub mod Weights
-pub mod Accepted
-pub mod Turn
+pub mod LabelLaw
+pub mod Worked

@@ -1,22 +1,24 @@
 //! Whether operands fit a row of the table of instructions.
 
-ghost use Rattle.std.specs.Prelude.{◌≡◌, ℕ, List};
+ghost use Rattle.std.specs.Prelude.{◌≡◌, ℕ, List, option_map};
 ghost use Rattle.std.specs.List.{list_all};
-ghost use Rattle.genop_table.specs.declared.instructions.Part.{Part as PartOf};
+ghost use Rattle.genop_table.specs.BuiltinRows.{builtin_of};
+ghost use Rattle.genop_table.specs.Builtins.{stands_in_guards as is_guarding};
+ghost use Rattle.genop_table.specs.declared.part.Limit.{Limit as LimitOf};
+ghost use Rattle.beam_code.specs.declared.operand.Operand.TheVariants as operand;
 ghost use Rattle.beam_code.specs.Fits as spec;
 
-use crate::{Operand, Reg, Src, holds_foreign, rows};
-use genop_table::Part;
+use crate::{LAST_COUNT, LAST_REGISTER, Operand, Reg, Src, holds_foreign};
+use genop_table::{BuiltinRow, Limit, Part, Place, Standing, TestArguments};
 
-/// The largest count at a place of a row.
-fn most(row: u16, place: usize) -> u32
-    ensures { result ≡ spec.most row place }
+/// The largest count at a place with that limit.
+fn most(limit: Limit) -> u32
+    ensures { result ≡ spec.most limit }
 {
-    match row {
-        rows::ALLOCATE..=rows::TRIM | rows::GC_BIF => 1024,
-        rows::CALL..=rows::APPLY_LAST if place == 0 => 255,
-        rows::CALL..=rows::APPLY_LAST => 1024,
-        _ => u32::MAX,
+    match limit {
+        Limit::Arguments => 255,
+        Limit::Size => 1024,
+        _ => LAST_COUNT,
     }
 }
 
@@ -24,19 +26,16 @@ fn is_register(register: Reg) -> bool
     ensures { result ≡ spec.is_register register }
 {
     match register {
-        Reg::X(number) | Reg::Y(number) => number <= 1023,
+        Reg::X(number) | Reg::Y(number) => number <= LAST_REGISTER,
     }
 }
 
-fn is_register_of(row: u16, register: Reg) -> bool
-    ensures { result ≡ spec.is_register_of row register }
+fn is_register_within(limit: Limit, register: Reg) -> bool
+    ensures { result ≡ spec.is_register_within limit register }
 {
-    if !(rows::TRY..=rows::CATCH_END).contains(&row) {
-        return is_register(register);
-    }
-    match register {
-        Reg::X(_) => false,
-        Reg::Y(number) => number <= 1023,
+    match (limit, register) {
+        (Limit::Slot, Reg::X(_)) => false,
+        _ => is_register(register),
     }
 }
 
@@ -56,23 +55,21 @@ fn is_atom(source: &Src) -> bool
     matches!(source, Src::Atom(_))
 }
 
+fn is_source_within(limit: Limit, source: &Src) -> bool
+    ensures { result ≡ spec.is_source_within limit source.now }
+{
+    match limit {
+        Limit::Atom => is_atom(source),
+        _ => is_source(source),
+    }
+}
+
 fn is_count(source: &Src) -> bool
     ensures { result ≡ spec.is_count source.now }
 {
     match source {
-        Src::Int(number) => 0 <= *number && *number <= i64::from(u32::MAX),
+        Src::Int(number) => 0 <= *number && *number <= i64::from(LAST_COUNT),
         _ => false,
-    }
-}
-
-/// Whether an operand's label may stand in the row.
-fn is_label_of(row: u16, label: u32) -> bool
-    ensures { result ≡ spec.is_label_of row label }
-{
-    match row {
-        rows::RAISE => label == 0,
-        rows::BIF..=rows::GC_BIF | rows::PUT_MAP_ASSOC..=rows::PUT_MAP_EXACT => true,
-        _ => label > 0,
     }
 }
 
@@ -82,22 +79,32 @@ fn is_target(label: u32) -> bool
     label > 0
 }
 
+fn is_label_within(limit: Limit, label: u32) -> bool
+    ensures { result ≡ spec.is_label_within limit label }
+{
+    match limit {
+        Limit::Target => is_target(label),
+        Limit::Raises => label == 0,
+        _ => true,
+    }
+}
+
 fn is_case_value(source: &Src) -> bool
     ensures { result ≡ spec.is_case_value source.now }
 {
     matches!(source, Src::Int(_) | Src::Atom(_))
 }
 
-/// Whether the sources are those that the test of that number takes.
-fn test_takes(test: u16, arguments: &[Src]) -> bool
-    ensures { result ≡ spec.test_takes test arguments.now }
+/// Whether the sources are those that a test with these arguments takes.
+fn test_takes(takes: Option<TestArguments>, arguments: &[Src]) -> bool
+    ensures { result ≡ spec.test_takes takes arguments.now }
 {
-    match test {
-        rows::TEST_ARITY => is_source_with_size(arguments),
-        rows::IS_TAGGED_TUPLE => is_source_with_tag(arguments),
-        1..=6 | rows::IS_FUNCTION2 => are_two_sources(arguments),
-        1..=25 => is_one_source(arguments),
-        _ => false,
+    match takes {
+        Some(TestArguments::OneSource) => is_one_source(arguments),
+        Some(TestArguments::TwoSources) => are_two_sources(arguments),
+        Some(TestArguments::SourceAndSize) => is_source_with_size(arguments),
+        Some(TestArguments::SourceSizeAndTag) => is_source_with_tag(arguments),
+        None => false,
     }
 }
 
@@ -137,17 +144,22 @@ fn is_source_with_tag(arguments: &[Src]) -> bool
     }
 }
 
-/// Whether the sources are as many as the guard builtin of that number takes.
-fn builtin_takes(builtin: u16, arguments: &[Src]) -> bool
-    ensures { result ≡ spec.builtin_takes builtin arguments.now }
+/// Whether the sources are as many as the guard builtin takes.
+fn builtin_takes(builtin: Option<BuiltinRow>, arguments: &[Src]) -> bool
+    ensures { result ≡ spec.builtin_takes (option_map builtin_of builtin) arguments.now }
 {
-    if !genop_table::guard(builtin) {
-        return false;
-    }
-    match genop_table::erlang_arity(builtin) {
-        Some(arity) => usize::from(arity) == arguments.len() && are_sources(arguments),
+    match builtin {
+        Some(row) => stands_in_guards(row.standing)
+            && usize::from(row.arity) == arguments.len()
+            && are_sources(arguments),
         None => false,
     }
+}
+
+fn stands_in_guards(standing: Standing) -> bool
+    ensures { result ≡ is_guarding standing }
+{
+    matches!(standing, Standing::Guard)
 }
 
 /// Whether the sources are a register with the trace, and the reason.
@@ -171,31 +183,15 @@ fn are_sources(sources: &[Src]) -> bool
     true
 }
 
-/// Whether a list of sources may stand in the row, behind the test or builtin of that number.
-fn are_sources_of(row: u16, number: u16, sources: &[Src]) -> bool
-    ensures { result ≡ spec.are_sources_of row number sources.now }
+/// Whether the sources are within the limit of their place, behind the test or builtin of that number.
+fn are_sources_within(limit: Limit, number: u16, sources: &[Src]) -> bool
+    ensures { result ≡ spec.are_sources_within limit number sources.now }
 {
-    if row == rows::TEST {
-        return test_takes(number, sources);
-    }
-    if row == rows::BIF {
-        return builtin_takes(number, sources);
-    }
-    if row == rows::GC_BIF {
-        return builtin_takes(number, sources);
-    }
-    if row == rows::RAISE {
-        return raise_takes(sources);
-    }
-    are_sources(sources)
-}
-
-fn is_source_of(row: u16, source: &Src) -> bool
-    ensures { result ≡ spec.is_source_of row source.now }
-{
-    match row {
-        rows::FUNC_INFO => is_atom(source),
-        _ => is_source(source),
+    match limit {
+        Limit::OfTest => test_takes(genop_table::test_arguments(number), sources),
+        Limit::OfBuiltin => builtin_takes(genop_table::builtin_row(number), sources),
+        Limit::OfRaise => raise_takes(sources),
+        _ => are_sources(sources),
     }
 }
 
@@ -266,20 +262,20 @@ fn are_registers(registers: &[Reg]) -> bool
     true
 }
 
-/// Whether an operand stands for the part at that place of the row's shape; the number is that of the test or builtin
-/// before it.
-fn fits_part(row: u16, number: u16, place: usize, part: Part, operand: &Operand) -> bool
-    ensures { result ≡ spec.fits_part row number place part operand.now }
+/// Whether an operand stands for a place; the number is that of the test or builtin before it.
+fn fits_place(number: u16, place: Place, operand: &Operand) -> bool
+    ensures { result ≡ spec.fits_part number place.limit place.part operand.now }
 {
+    let Place { part, limit } = place;
     match operand {
-        Operand::Src(source) => part == Part::Src && is_source_of(row, source),
-        Operand::Reg(register) => part == Part::Reg && is_register_of(row, *register),
-        Operand::Label(label) => part == Part::Label && is_label_of(row, *label),
-        Operand::Count(count) => part == Part::Count && *count <= most(row, place),
+        Operand::Src(source) => part == Part::Src && is_source_within(limit, source),
+        Operand::Reg(register) => part == Part::Reg && is_register_within(limit, *register),
+        Operand::Label(label) => part == Part::Label && is_label_within(limit, *label),
+        Operand::Count(count) => part == Part::Count && *count <= most(limit),
         Operand::Name(_) => part == Part::Name,
         Operand::Ext(_, _, arity) => is_external(part, *arity),
         Operand::Srcs(sources) => part == Part::Srcs
-            && are_sources_of(row, number, sources.as_slice()),
+            && are_sources_within(limit, number, sources.as_slice()),
         Operand::Regs(registers) => part == Part::Regs && are_registers(registers.as_slice()),
         Operand::Cases(cases) => fits_cases(part, cases.as_slice()),
         Operand::Pairs(pairs) => part == Part::Pairs && are_pairs(pairs.as_slice()),
@@ -289,13 +285,13 @@ fn fits_part(row: u16, number: u16, place: usize, part: Part, operand: &Operand)
 
 // An arity of one byte is at most 255, as that of a call must be.
 fn is_external(part: Part, _arity: u8) -> bool
-    ensures { result ≡ spec.is_external part _arity }
+    ensures { (number : ℕ) (limit : LimitOf) (owner name : List ℕ) → result ≡ spec.fits_part number limit part (operand.Ext owner name _arity) }
 {
     part == Part::Ext
 }
 
 fn fits_cases(part: Part, cases: &[(Src, u32)]) -> bool
-    ensures { result ≡ spec.fits_cases part cases.now }
+    ensures { (number : ℕ) (limit : LimitOf) → result ≡ spec.fits_part number limit part (operand.Cases cases.now) }
 {
     match part {
         Part::Cases => are_cases(cases),
@@ -320,27 +316,27 @@ fn number_behind(number: u16, operand: &Operand) -> u16
     }
 }
 
-/// Whether there is a row of that number, and the operands stand for the parts of its shape.
+/// Whether there is a row of that number, and the operands stand for its places.
 pub(crate) fn fits(row: u16, operands: &[Operand]) -> bool
     ensures { result ≡ spec.fits row operands.now }
 {
-    match genop_table::shape(row) {
-        Some(parts) => fits_parts(row, parts, operands),
+    match genop_table::row(row) {
+        Some(row) => fits_places(row.places, operands),
         None => false,
     }
 }
 
-fn fits_parts(row: u16, parts: &[Part], operands: &[Operand]) -> bool
-    ensures { result ≡ spec.fits_parts row 0 0 parts.now operands.now }
+fn fits_places(places: &[Place], operands: &[Operand]) -> bool
+    ensures { result ≡ spec.fits_places 0 places.now operands.now }
 {
     let mut rest = operands;
     let mut number = 0;
-    for (place, part) in parts.iter().enumerate() {
-        if is_kept(*part) {
+    for place in places {
+        if is_kept(place.part) {
             let Some((operand, behind)) = rest.split_first() else {
                 return false;
             };
-            if !fits_part(row, number, place, *part, operand) {
+            if !fits_place(number, *place, operand) {
                 return false;
             }
             number = number_behind(number, operand);

@@ -3,11 +3,10 @@
 ghost use Rattle.std.specs.Prelude.{◌≡◌, true};
 ghost use Rattle.beam_code.specs.Fits.{fits as fits_row_of};
 
+use crate::decode::decoded_row;
 use crate::fits::fits;
-use crate::{Operand, Reg, Src, rows};
-use ej_term::Text;
+use crate::{Opcode, Operand};
 use sqlite_items::Items;
-use std::alloc::{AllocError, Global};
 
 /// An instruction: the number of its row, and its operands, which fit that row.
 #[derive(Debug, Drop)]
@@ -18,12 +17,10 @@ pub struct Instr {
 }
 
 impl Instr {
-    ghost use Rattle.std.specs.Prelude.{◌≡◌, IfOk, IsSome, Some, List, Option, option_map, true};
-    ghost use Rattle.beam_code.specs.Opcode.{Source, Label, Line, FuncInfo, Move, Return, source_of};
-    ghost use Rattle.beam_code.specs.Opcode.{opcode};
+    ghost use Rattle.std.specs.Prelude.{◌≡◌, option_map};
+    ghost use Rattle.beam_code.specs.Code.{opcode};
     ghost use Rattle.beam_code.specs.Parts.{parts_of, fitting};
-    ghost use Rattle.beam_code.specs.Fits.{is_source, is_register};
-    ghost use Rattle.beam_code.specs.declared.operand.Reg.TheVariants.{X};
+    ghost use Rattle.beam_code.specs.Seen.{opcode_seen};
 
     /// The instruction of that row and these operands. None where they do not fit the row.
     pub fn make(row: u16, operands: Items<Operand>) -> Option<Instr>
@@ -35,72 +32,14 @@ impl Instr {
         Some(Instr { row, operands })
     }
 
-    /// `{label,n}`: defines the label `n`. The error says that memory was wanting.
-    pub fn label(alloc: Global, n: u32) -> Result<Instr, AllocError>
-        ensures { IfOk result (λ i. opcode i ≡ Label n) }
+    /// What the instruction is, with what it works on, which it lends.
+    #[tactic(auto, unfolding(crate::specs::Code::opcode))]
+    pub fn opcode(&self) -> Opcode<'_>
+        ensures { opcode_seen result ≡ opcode self.now }
     {
-        let mut operands = Items::new(alloc);
-        operands.push(Operand::Count(n))?;
-        Ok(Instr {
-            row: rows::LABEL,
-            operands,
-        })
-    }
-
-    /// `{line,_}`: tells where the source is, which nothing reads.
-    pub fn line(alloc: Global) -> Instr
-        ensures { opcode result ≡ Line }
-    {
-        Instr {
-            row: rows::LINE,
-            operands: Items::new(alloc),
-        }
-    }
-
-    /// `{func_info,{atom,M},{atom,F},n}`: raises `function_clause` for that function of that module. The error
-    /// says that memory was wanting.
-    pub fn func_info(
-        alloc: Global,
-        owner: Text,
-        name: Text,
-        arity: u32,
-    ) -> Result<Instr, AllocError>
-        ensures { IfOk result (λ i. opcode i ≡ FuncInfo owner name arity) }
-    {
-        let mut operands = Items::new(alloc);
-        operands.push(Operand::Src(Src::Atom(owner)))?;
-        operands.push(Operand::Src(Src::Atom(name)))?;
-        operands.push(Operand::Count(arity))?;
-        Ok(Instr {
-            row: rows::FUNC_INFO,
-            operands,
-        })
-    }
-
-    /// `{move,S,{x,N}}`: the register gets what the source holds, an x register, an integer, an atom or nil. The
-    /// registers' numbers are at most 1,023. The error says that memory was wanting.
-    pub fn moves(alloc: Global, from: Src, to: u16) -> Result<Instr, AllocError>
-        requires known { IsSome (source_of from) }
-        requires from_fits { is_source from ≡ true }
-        requires to_fits { is_register (X to) ≡ true }
-        ensures { (source : Source) → source_of from ≡ Some source → IfOk result (λ i. opcode i ≡ Move source to) }
-    {
-        let mut operands = Items::new(alloc);
-        operands.push(Operand::Src(from))?;
-        operands.push(Operand::Reg(Reg::X(to)))?;
-        Ok(Instr {
-            row: rows::MOVE,
-            operands,
-        })
-    }
-
-    /// `return`: answers x0 to the caller.
-    pub fn returns(alloc: Global) -> Instr
-        ensures { opcode result ≡ Return }
-    {
-        Instr {
-            row: rows::RETURN,
-            operands: Items::new(alloc),
+        match decoded_row(self.row, self.operands.as_slice()) {
+            Some(opcode) => opcode,
+            None => unreachable!(),
         }
     }
 }
@@ -108,29 +47,43 @@ impl Instr {
 #[cfg(test)]
 mod tests {
     use super::*;
+    use crate::{Reg, Src, holds_foreign};
+    use ej_term::{AsmTerm, Text};
+    use std::alloc::{AllocError, Global};
     use std::test::Fail;
 
-    // The rows' numbers are their places, from 1, in the table of instructions.
-    #[test]
-    fn rows_and_operands(rt: HostRuntime) -> Result<(), Fail> {
-        let alloc = rt.alloc();
-        let owner = Text::make(alloc, "m")?;
-        let name = Text::make(alloc, "f")?;
-        let atom = Text::make(alloc, "a")?;
-        let made = [
-            (Instr::label(alloc, 7)?, 1, 1),
-            (Instr::line(alloc), 2, 0),
-            (Instr::func_info(alloc, owner, name, 3)?, 4, 3),
-            (Instr::moves(alloc, Src::Reg(Reg::X(7)), 0)?, 5, 2),
-            (Instr::moves(alloc, Src::Int(-1), 1023)?, 5, 2),
-            (Instr::moves(alloc, Src::Atom(atom), 1)?, 5, 2),
-            (Instr::moves(alloc, Src::Nil, 2)?, 5, 2),
-            (Instr::returns(alloc), 22, 0),
-        ];
-        for (instr, row, operands) in &made {
-            assert_eq!(rt; instr.row, *row);
-            assert_eq!(rt; instr.operands.len(), *operands);
+    // `{move,{x,N},{y,2}}`.
+    fn moves(alloc: Global, number: u16) -> Result<Option<Instr>, AllocError> {
+        let mut operands = Items::new(alloc);
+        operands.push(Operand::Src(Src::Reg(Reg::X(number))))?;
+        operands.push(Operand::Reg(Reg::Y(2)))?;
+        match genop_table::instruction(b"move") {
+            Some(row) => Ok(Instr::make(row, operands)),
+            None => Ok(None),
         }
+    }
+
+    #[test]
+    fn fits_and_is_told(rt: HostRuntime) -> Result<(), Fail> {
+        let instr = moves(rt.alloc(), 1023)?.ok_or("an instruction")?;
+        let Opcode::Move { from, to } = instr.opcode() else {
+            assert!(rt; false);
+            return Ok(());
+        };
+        assert!(rt; matches!(from, Src::Reg(Reg::X(1023))));
+        assert_eq!(rt; to, Reg::Y(2));
+        assert!(rt; moves(rt.alloc(), 1024)?.is_none());
+        Ok(())
+    }
+
+    #[test]
+    fn finds_what_is_foreign(rt: HostRuntime) -> Result<(), Fail> {
+        let mut parts = Items::new(rt.alloc());
+        parts.push(AsmTerm::Int(1))?;
+        assert!(rt; !holds_foreign(&AsmTerm::Tuple(parts)));
+        let mut parts = Items::new(rt.alloc());
+        parts.push(AsmTerm::Opaque(Text::make(rt.alloc(), "1.5")?))?;
+        assert!(rt; holds_foreign(&AsmTerm::Tuple(parts)));
         Ok(())
     }
 }

@@ -1,19 +1,25 @@
 //! BEAM code: the instructions, functions and modules of an assembly text, and what they mean.
 //!
 //! The types keep what every layer above relies on: an instruction's operands fit its row, a module's
-//! functions are distinct and its exports are functions of its own. The definitions beside them, in
-//! `specs/`, say which label rules a module meets, which slots hold a value at each place, what it weighs,
-//! and what its code does.
+//! functions are distinct and its exports are functions of its own. `Instr::opcode` tells what an instruction is, as one of
+//! the cases of `Opcode`; whatever goes by instructions goes by these. The definitions beside them, in `specs/`, say
+//! which operands fit a row, what each row stands for, and which label rules a module keeps.
 #![tactic(auto)]
 
+mod decode;
 mod fits;
 mod foreign;
 mod instr;
+mod laws;
 mod module;
+mod opcode;
 mod operand;
-pub mod rows;
+mod worked;
 
 pub use foreign::holds_foreign;
 pub use instr::Instr;
+pub use laws::first_break_is_none;
 pub use module::{Function, Module};
-pub use operand::{Operand, Reg, Src};
+pub use opcode::{CallKind, Callee, MapUpdate, Marking, Opcode, Piece, Unmatched};
+pub use operand::{LAST_COUNT, LAST_REGISTER, Operand, Reg, Src};
+pub use worked::worked_instructions;

@@ -3,6 +3,12 @@
 use ej_term::{AsmTerm, Text};
 use sqlite_items::Items;
 
+/// The last x register, and the last y register.
+pub const LAST_REGISTER: u16 = 1023;
+
+/// The largest label, and the largest count where no smaller limit stands.
+pub const LAST_COUNT: u32 = 4294967295;
+
 /// A register: an argument and temporary `{x,N}`, or a slot of the frame `{y,N}`.
 #[derive(Clone, Copy, Debug, PartialEq, Eq)]
 pub enum Reg {

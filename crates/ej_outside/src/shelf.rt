@@ -24,7 +24,7 @@ pub enum ShelfFault {
     #[error("the read failed")]
     Failed,
     /// Memory was wanting.
-    #[error("no memory")]
+    #[error("out of memory")]
     NoMemory,
 }
 

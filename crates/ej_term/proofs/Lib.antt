@@ -1,3 +1,4 @@
+pub mod Numbered
 pub mod TextLemmas
 pub mod OrderCode
 pub mod OrderLaws

@@ -1,9 +1,12 @@
--- The builtin functions that have no effect, by number (the OTP modules erlang, lists and maps).
-use Rattle.std.specs.Prelude.{ℕ, zero, suc, pos, ℤ, neg_ℤ, Bool, false, not, ◌||◌, if◌then◌else◌, nat_eq, List, [], ◌∷◌, codes, slice_get, Option, Some}
+-- What the builtin functions that have no effect give (the OTP modules erlang, lists and maps).
+use Rattle.std.specs.Prelude.{ℕ, pos, ℤ, neg_ℤ, Bool, false, not, if◌then◌else◌, nat_eq, List, [], ◌∷◌, codes, Option, Some}
 use Rattle.std.specs.Prelude as std
 use Rattle.std.specs.Str.{bytes_eq}
 use Rattle.ej_term.specs.declared.class.Class3.{Class3}
 use Rattle.ej_term.specs.declared.class.Class3.TheVariants.{Error, Exit, Throw}
+use Rattle.ej_term.specs.declared.builtin.Builtin.{Builtin}
+use Rattle.ej_term.specs.declared.builtin.Builtin.TheVariants as b
+use Rattle.ej_term.specs.BuiltinNumbers.{builtin_numbered}
 use Rattle.ej_term.specs.Term.{Term, Int, Atom, tuple, atom}
 use Rattle.ej_term.specs.Outcome.{Outcome, Value, Raised, named_error, badarg, badarith, boolean}
 use Rattle.ej_term.specs.Tests.{less, equal, is_integer, is_atom, is_pid, is_reference, is_list, is_tuple, is_boolean, is_function, takes, is_map, never}
@@ -40,85 +43,150 @@ raise class reason trace = raised (class_named class) (elements trace)
     raised (Some named) (Some parts) = Raised named reason
     raised _ _ = Value (atom (codes "badarg"))
 
--- a builtin of one, two or three arguments, or one with an effect
-pub data Builtin : Type 0 where
-  One : (Term → Outcome) → Builtin
-  Two : (Term → Term → Outcome) → Builtin
-  Three : (Term → Term → Term → Outcome) → Builtin
-  Effect : Builtin
+-- what a builtin function gives for one, two or three arguments; one with an effect gives nothing here
+pub data Rule : Type 0 where
+  One : (Term → Outcome) → Rule
+  Two : (Term → Term → Outcome) → Rule
+  Three : (Term → Term → Term → Outcome) → Rule
+  Effect : Rule
 
--- the builtin of a test of one term
-abbrev pub tests : (Term → Bool) → Builtin
-tests f = One (λ term. Value (boolean (f term)))
+-- a test of one term
+abbrev pub asks : (Term → Bool) → Rule
+asks f = One (λ term. Value (boolean (f term)))
 
--- the builtin of a comparison
-abbrev pub compares : (Term → Term → Bool) → Builtin
+-- a comparison
+abbrev pub compares : (Term → Term → Bool) → Rule
 compares f = Two (λ a b. Value (boolean (f a b)))
 
--- the builtins of operations on integers and on booleans
-abbrev pub computes : (ℤ → ℤ → Outcome) → Builtin
+-- an operation on two integers, and one on two booleans
+abbrev pub computes : (ℤ → ℤ → Outcome) → Rule
 computes f = Two (on_integers f)
 
-abbrev pub decides : (Bool → Bool → Bool) → Builtin
+abbrev pub decides : (Bool → Bool → Bool) → Rule
 decides f = Two (λ a b. joined f (truth a) (truth b))
 
--- in the order of their numbers, which begin with 1
-abbrev pub builtins : List Builtin
-builtins =
-    -- 1: + - * div rem /2
-    computes plus ∷ computes minus ∷ computes times ∷ computes quotient ∷ computes remainder
-    -- 6: band bor bxor bsl bsr /2
-    ∷ computes band ∷ computes bor ∷ computes bxor ∷ computes bsl ∷ computes bsr
-    -- 11: - + bnot abs /1
-    ∷ One (on_integer badarith neg_ℤ) ∷ One (on_integer badarith same) ∷ One (on_integer badarith bnot) ∷ One (on_integer badarg absolute)
-    -- 15: == /= =< < >= > =:= =/= /2
-    ∷ compares equal ∷ compares (λ a b. not (equal a b)) ∷ compares (λ a b. not (less b a)) ∷ compares less
-    ∷ compares (λ a b. not (less a b)) ∷ compares (λ a b. less b a) ∷ compares equal ∷ compares (λ a b. not (equal a b))
-    -- 23: not/1, and or xor /2
-    ∷ One (λ a. negated (truth a)) ∷ decides both ∷ decides either ∷ decides differ
-    -- 27: hd tl length tuple_size /1, element/2
-    ∷ One head ∷ One tail ∷ One length_of ∷ One tuple_size ∷ Two element
-    -- 32: map_size/1, map_get/2, is_map_key/2, self/0
-    ∷ One map_size ∷ Two map_get ∷ Two is_map_key ∷ Effect
-    -- 36: is_atom is_integer is_number is_list is_tuple is_pid /1
-    ∷ tests is_atom ∷ tests is_integer ∷ tests is_integer ∷ tests is_list ∷ tests is_tuple ∷ tests is_pid
-    -- 42: is_reference is_function is_map is_boolean is_float is_binary /1, is_function/2
-    ∷ tests is_reference ∷ tests is_function ∷ tests is_map ∷ tests is_boolean ∷ tests never ∷ tests never ∷ Two is_function_of
-    -- 49: max min /2, ++ -- /2
-    ∷ Two (λ a b. Value (maximum a b)) ∷ Two (λ a b. Value (minimum a b)) ∷ Two append ∷ Two subtract
-    -- 53: setelement/3, tuple_to_list/1, list_to_tuple/1, make_tuple/2
-    ∷ Three setelement ∷ One tuple_to_list ∷ One list_to_tuple ∷ Two make_tuple
-    -- 57: lists: reverse/2, member/2, keyfind/3
-    ∷ Two reverse_onto ∷ Two member ∷ Three keyfind
-    -- 60: maps: get/2 find/2 put/3 update/3 remove/2 is_key/2
-    ∷ Two map_get ∷ Two maps_find ∷ Three maps_put ∷ Three maps_update ∷ Two maps_remove ∷ Two is_map_key
-    -- 66: maps: keys/1 values/1 to_list/1 from_list/1 merge/2
-    ∷ One maps_keys ∷ One maps_values ∷ One maps_to_list ∷ One maps_from_list ∷ Two maps_merge
-    -- 71: atom_to_list integer_to_list list_to_integer /1
-    ∷ One atom_to_list ∷ One integer_to_list ∷ One list_to_integer
-    -- 74: error/1 error/2 exit/1 throw/1 raise/3
-    ∷ One (Raised Error) ∷ Two (λ reason arguments. Raised Error reason) ∷ One (Raised Exit) ∷ One (Raised Throw) ∷ Three raise ∷ []
+abbrev pub rule : Builtin → Rule
+rule b.Add = computes plus
+rule b.Subtract = computes minus
+rule b.Multiply = computes times
+rule b.Div = computes quotient
+rule b.Rem = computes remainder
+rule b.Band = computes band
+rule b.Bor = computes bor
+rule b.Bxor = computes bxor
+rule b.Bsl = computes bsl
+rule b.Bsr = computes bsr
+rule b.Negate = One (on_integer badarith neg_ℤ)
+rule b.Plus = One (on_integer badarith same)
+rule b.Bnot = One (on_integer badarith bnot)
+rule b.Abs = One (on_integer badarg absolute)
+rule b.Equal = compares equal
+rule b.NotEqual = compares (λ a b. not (equal a b))
+rule b.AtMost = compares (λ a b. not (less b a))
+rule b.Less = compares less
+rule b.AtLeast = compares (λ a b. not (less a b))
+rule b.Greater = compares (λ a b. less b a)
+rule b.ExactlyEqual = compares equal
+rule b.NotExactlyEqual = compares (λ a b. not (equal a b))
+rule b.Not = One (λ a. negated (truth a))
+rule b.And = decides both
+rule b.Or = decides either
+rule b.Xor = decides differ
+rule b.Hd = One head
+rule b.Tl = One tail
+rule b.Length = One length_of
+rule b.TupleSize = One tuple_size
+rule b.Element = Two element
+rule b.MapSize = One map_size
+rule b.MapGet = Two map_get
+rule b.IsMapKey = Two is_map_key
+rule b.SelfPid = Effect
+rule b.IsAtom = asks is_atom
+rule b.IsInteger = asks is_integer
+rule b.IsNumber = asks is_integer
+rule b.IsList = asks is_list
+rule b.IsTuple = asks is_tuple
+rule b.IsPid = asks is_pid
+rule b.IsReference = asks is_reference
+rule b.IsFunction = asks is_function
+rule b.IsMap = asks is_map
+rule b.IsBoolean = asks is_boolean
+rule b.IsFloat = asks never
+rule b.IsBinary = asks never
+rule b.IsFunctionOfArity = Two is_function_of
+rule b.Max = Two (λ a b. Value (maximum a b))
+rule b.Min = Two (λ a b. Value (minimum a b))
+rule b.Append = Two append
+rule b.SubtractList = Two subtract
+rule b.SetElement = Three setelement
+rule b.TupleToList = One tuple_to_list
+rule b.ListToTuple = One list_to_tuple
+rule b.MakeTuple = Two make_tuple
+rule b.ListsReverse = Two reverse_onto
+rule b.ListsMember = Two member
+rule b.ListsKeyfind = Three keyfind
+rule b.MapsGet = Two map_get
+rule b.MapsFind = Two maps_find
+rule b.MapsPut = Three maps_put
+rule b.MapsUpdate = Three maps_update
+rule b.MapsRemove = Two maps_remove
+rule b.MapsIsKey = Two is_map_key
+rule b.MapsKeys = One maps_keys
+rule b.MapsValues = One maps_values
+rule b.MapsToList = One maps_to_list
+rule b.MapsFromList = One maps_from_list
+rule b.MapsMerge = Two maps_merge
+rule b.AtomToList = One atom_to_list
+rule b.IntegerToList = One integer_to_list
+rule b.ListToInteger = One list_to_integer
+rule b.Error = One (Raised Error)
+rule b.ErrorWithArguments = Two (λ reason arguments. Raised Error reason)
+rule b.Exit = One (Raised Exit)
+rule b.Throw = One (Raised Throw)
+rule b.Raise = Three raise
+rule b.SendOperator = Effect
+rule b.Send = Effect
+rule b.SpawnFun = Effect
+rule b.Spawn = Effect
+rule b.SpawnLinkFun = Effect
+rule b.SpawnLink = Effect
+rule b.Link = Effect
+rule b.Unlink = Effect
+rule b.ExitSignal = Effect
+rule b.ProcessFlag = Effect
+rule b.Display = Effect
+rule b.MakeRef = Effect
+
+abbrev pub undefined : Outcome
+undefined = named_error (codes "undef")
+
+-- by a rule: error undef where it is not of so many arguments
+abbrev pub gives : Rule → List Term → Outcome
+gives (One f) (a ∷ []) = f a
+gives (Two f) (a ∷ b ∷ []) = f a b
+gives (Three f) (a ∷ b ∷ c ∷ []) = f a b c
+gives _ _ = undefined
 
 abbrev pub applied : Option Builtin → List Term → Outcome
-applied (Some (One f)) (a ∷ []) = f a
-applied (Some (Two f)) (a ∷ b ∷ []) = f a b
-applied (Some (Three f)) (a ∷ b ∷ c ∷ []) = f a b c
-applied _ _ = named_error (codes "undef")
+applied (Some named) arguments = gives (rule named) arguments
+applied std.None arguments = undefined
 
 -- what the builtin of this number gives for these arguments; error undef where none without an effect has that
 -- number and takes so many
 abbrev pub pure : ℕ → List Term → Outcome
-pure zero arguments = named_error (codes "undef")
-pure (suc n) arguments = applied (slice_get builtins n) arguments
+pure number arguments = applied (builtin_numbered number) arguments
 
 -- so many arguments, and no effect
+abbrev pub is_of : Rule → ℕ → Bool
+is_of (One f) count = nat_eq count 1
+is_of (Two f) count = nat_eq count 2
+is_of (Three f) count = nat_eq count 3
+is_of Effect count = false
+
 abbrev pub counts : Option Builtin → ℕ → Bool
-counts (Some (One f)) count = nat_eq count 1
-counts (Some (Two f)) count = nat_eq count 2
-counts (Some (Three f)) count = nat_eq count 3
-counts _ count = false
+counts (Some named) count = is_of (rule named) count
+counts std.None count = false
 
 -- there is a builtin of this number without an effect, and it takes so many arguments
 abbrev pub is_pure : ℕ → ℕ → Bool
-is_pure zero count = false
-is_pure (suc n) count = counts (slice_get builtins n) count
+is_pure number count = counts (builtin_numbered number) count

@@ -3,6 +3,7 @@ pub mod Atoms
 pub mod Order
 pub mod TermPrint
 pub mod Outcome
+pub mod TestNumbers
 pub mod Tests
 pub mod Arithmetic
 pub mod Booleans
@@ -10,6 +11,7 @@ pub mod Tuples
 pub mod Lists
 pub mod Maps
 pub mod Digits
+pub mod BuiltinNumbers
 pub mod Builtins
 pub mod AsmValue
 pub mod Print

@@ -1,9 +1,13 @@
--- The tests of terms, by number (Erlang Reference Manual, "Guard Sequences"; the OTP 24 genop table).
-use Rattle.std.specs.Prelude.{ℕ, zero, suc, pos, Bool, true, false, not, ◌&&◌, ◌||◌, nat_eq, List, [], ◌∷◌, codes, slice_get, Option, Some}
+-- The tests of terms (Erlang Reference Manual, "Guard Sequences"; the OTP 24 genop table).
+use Rattle.std.specs.Prelude.{ℕ, pos, Bool, true, false, not, ◌&&◌, ◌||◌, nat_eq, List, [], ◌∷◌, codes, Option, Some}
+use Rattle.std.specs.Prelude as std
 use Rattle.std.specs.Str.{bytes_eq}
 use Rattle.std.specs.Ordering.{is_lt, is_eq}
 use Rattle.ej_term.specs.Term.{Term, Int, Atom, Reference, Fun, Pid, Tuple, Map, Nil, Cons, More}
 use Rattle.ej_term.specs.Order.{compare, size}
+use Rattle.ej_term.specs.declared.test.Test.{Test}
+use Rattle.ej_term.specs.declared.test.Test.TheVariants as t
+use Rattle.ej_term.specs.TestNumbers.{test_numbered}
 
 abbrev pub less : Term → Term → Bool
 less a b = is_lt (compare a b)
@@ -78,43 +82,64 @@ is_tagged_tuple term n tag = has_arity term n && begins_with term tag
 abbrev pub never : Term → Bool
 never term = false
 
--- a test of one, two or three terms
-pub data Test : Type 0 where
-  One : (Term → Bool) → Test
-  Two : (Term → Term → Bool) → Test
-  Three : (Term → Term → Term → Bool) → Test
+-- what a test says of one, two or three terms
+pub data Rule : Type 0 where
+  One : (Term → Bool) → Rule
+  Two : (Term → Term → Bool) → Rule
+  Three : (Term → Term → Term → Bool) → Rule
 
--- in the order of their numbers, which begin with 1
-abbrev pub tests : List Test
-tests =
-    -- is_lt, is_ge, is_eq, is_ne, is_eq_exact, is_ne_exact
-    Two less ∷ Two (λ a b. not (less a b)) ∷ Two equal ∷ Two (λ a b. not (equal a b)) ∷ Two equal ∷ Two (λ a b. not (equal a b))
-    -- is_integer, is_number, is_atom, is_pid, is_reference, is_nil, is_list, is_nonempty_list, is_tuple
-    ∷ One is_integer ∷ One is_integer ∷ One is_atom ∷ One is_pid ∷ One is_reference ∷ One is_nil ∷ One is_list ∷ One is_nonempty_list ∷ One is_tuple
-    -- test_arity, is_boolean, is_function, is_function2, is_map, is_tagged_tuple
-    ∷ Two has_arity ∷ One is_boolean ∷ One is_function ∷ Two takes ∷ One is_map ∷ Three is_tagged_tuple
-    -- is_float, is_binary, is_bitstr, is_port
-    ∷ One never ∷ One never ∷ One never ∷ One never ∷ []
+abbrev pub rule : Test → Rule
+rule t.Less = Two less
+rule t.AtLeast = Two (λ a b. not (less a b))
+rule t.Equal = Two equal
+rule t.NotEqual = Two (λ a b. not (equal a b))
+rule t.ExactlyEqual = Two equal
+rule t.NotExactlyEqual = Two (λ a b. not (equal a b))
+rule t.IsInteger = One is_integer
+rule t.IsNumber = One is_integer
+rule t.IsAtom = One is_atom
+rule t.IsPid = One is_pid
+rule t.IsReference = One is_reference
+rule t.IsNil = One is_nil
+rule t.IsList = One is_list
+rule t.IsNonemptyList = One is_nonempty_list
+rule t.IsTuple = One is_tuple
+rule t.TestArity = Two has_arity
+rule t.IsBoolean = One is_boolean
+rule t.IsFunction = One is_function
+rule t.IsFunctionOfArity = Two takes
+rule t.IsMap = One is_map
+rule t.IsTaggedTuple = Three is_tagged_tuple
+rule t.IsFloat = One never
+rule t.IsBinary = One never
+rule t.IsBitstring = One never
+rule t.IsPort = One never
+
+-- by a rule: false where it is not of so many terms
+abbrev pub holds_by : Rule → List Term → Bool
+holds_by (One f) (a ∷ []) = f a
+holds_by (Two f) (a ∷ b ∷ []) = f a b
+holds_by (Three f) (a ∷ b ∷ c ∷ []) = f a b c
+holds_by _ _ = false
 
 abbrev pub holds : Option Test → List Term → Bool
-holds (Some (One f)) (a ∷ []) = f a
-holds (Some (Two f)) (a ∷ b ∷ []) = f a b
-holds (Some (Three f)) (a ∷ b ∷ c ∷ []) = f a b c
-holds _ _ = false
+holds (Some named) terms = holds_by (rule named) terms
+holds std.None terms = false
 
 -- what the test of this number says of these terms; false where there is no such test of so many terms
 abbrev pub test : ℕ → List Term → Bool
-test zero terms = false
-test (suc n) terms = holds (slice_get tests n) terms
+test number terms = holds (test_numbered number) terms
 
--- so many terms
-abbrev pub counts : Option Test → ℕ → Bool
-counts (Some (One f)) count = nat_eq count 1
-counts (Some (Two f)) count = nat_eq count 2
-counts (Some (Three f)) count = nat_eq count 3
-counts _ count = false
+-- it is of so many terms
+abbrev pub is_of : Rule → ℕ → Bool
+is_of (One f) count = nat_eq count 1
+is_of (Two f) count = nat_eq count 2
+is_of (Three f) count = nat_eq count 3
+
+abbrev pub tests_count : Option Test → ℕ → Bool
+tests_count (Some named) count = is_of (rule named) count
+tests_count std.None count = false
 
 -- there is a test of this number, and it is of so many terms
 abbrev pub is_test : ℕ → ℕ → Bool
-is_test zero count = false
-is_test (suc n) count = counts (slice_get tests n) count
+is_test number count = tests_count (test_numbered number) count

@@ -7,6 +7,10 @@ use Rattle.ej_term.specs.declared.class.Class3.TheVariants.{Error, Throw}
 use Rattle.ej_term.specs.Term.{Term, Int, Atom, Reference, Fun, Pid, Map, Nil, Cons, None, Empty, Pair, list, tuple, terms}
 use Rattle.ej_term.specs.Order.{compare}
 use Rattle.ej_term.specs.Outcome.{Value, Raised, number, boolean, badarg, badarith, system_limit}
+use Rattle.ej_term.specs.declared.builtin.Builtin.TheVariants as builtin
+use Rattle.ej_term.specs.declared.test.Test.TheVariants as tested
+use Rattle.ej_term.specs.BuiltinNumbers.{builtin_numbered}
+use Rattle.ej_term.specs.TestNumbers.{test_numbered}
 use Rattle.ej_term.specs.Tests.{test}
 use Rattle.ej_term.specs.Builtins.{pure}
 use Rattle.ej_term.specs.Maps.{badmap, badkey}
@@ -57,11 +61,37 @@ pub record OrderRows : Type 0 where
   pub keys_first : compare (Map (Pair a b Empty)) (Map (Pair b a Empty)) ≡ Less
   pub pids : compare (Pid 0 5) (Pid 1 0) ≡ Less
 
+pub record NumberRows : Type 0 where
+  pub no_builtin : builtin_numbered 0 ≡ std.None
+  pub add : builtin_numbered 1 ≡ std.Some builtin.Add
+  pub div : builtin_numbered 4 ≡ std.Some builtin.Div
+  pub rem : builtin_numbered 5 ≡ std.Some builtin.Rem
+  pub equal : builtin_numbered 15 ≡ std.Some builtin.Equal
+  pub exactly_equal : builtin_numbered 21 ≡ std.Some builtin.ExactlyEqual
+  pub hd : builtin_numbered 27 ≡ std.Some builtin.Hd
+  pub tl : builtin_numbered 28 ≡ std.Some builtin.Tl
+  pub map_get : builtin_numbered 33 ≡ std.Some builtin.MapGet
+  pub is_map_key : builtin_numbered 34 ≡ std.Some builtin.IsMapKey
+  pub self : builtin_numbered 35 ≡ std.Some builtin.SelfPid
+  pub maps_get : builtin_numbered 60 ≡ std.Some builtin.MapsGet
+  pub send : builtin_numbered 80 ≡ std.Some builtin.Send
+  pub make_ref : builtin_numbered 90 ≡ std.Some builtin.MakeRef
+  pub past_builtins : builtin_numbered 91 ≡ std.None
+  pub no_test : test_numbered 0 ≡ std.None
+  pub is_integer : test_numbered 7 ≡ std.Some tested.IsInteger
+  pub is_number : test_numbered 8 ≡ std.Some tested.IsNumber
+  pub is_list : test_numbered 13 ≡ std.Some tested.IsList
+  pub is_nonempty_list : test_numbered 14 ≡ std.Some tested.IsNonemptyList
+  pub is_port : test_numbered 25 ≡ std.Some tested.IsPort
+  pub past_tests : test_numbered 26 ≡ std.None
+
 pub record TestRows : Type 0 where
   pub is_lt : test 1 (number 1 ∷ a ∷ []) ≡ true
   pub is_ge : test 2 (a ∷ number 1 ∷ []) ≡ true
   pub is_eq_exact : test 5 (list (a ∷ []) ∷ Cons a Nil ∷ []) ≡ true
   pub is_list : test 13 (Cons a b ∷ []) ≡ true
+  pub nil_is_list : test 13 (Nil ∷ []) ≡ true
+  pub is_nonempty_list : test 14 (Nil ∷ []) ≡ false
   pub test_arity : test 16 (tuple (a ∷ b ∷ []) ∷ number 2 ∷ []) ≡ true
   pub is_boolean : test 17 (boolean false ∷ []) ≡ true
   pub is_function2 : test 19 (local ∷ number 1 ∷ []) ≡ true
@@ -86,6 +116,8 @@ pub record ArithmeticRows : Type 0 where
   pub absolute : pure 14 (a ∷ []) ≡ badarg
 
 pub record ListRows : Type 0 where
+  pub head : pure 27 (Cons a b ∷ []) ≡ Value a
+  pub tail : pure 28 (Cons a b ∷ []) ≡ Value b
   pub length : pure 29 (Cons a b ∷ []) ≡ badarg
   pub append : pure 51 (list (a ∷ []) ∷ b ∷ []) ≡ Value (Cons a b)
   pub subtract : pure 52 (list (a ∷ b ∷ a ∷ []) ∷ list (a ∷ []) ∷ []) ≡ Value (list (b ∷ a ∷ []))
@@ -99,6 +131,7 @@ pub record ListRows : Type 0 where
 
 pub record MapRows : Type 0 where
   pub get : pure 60 (number 1 ∷ one_map ∷ []) ≡ Value a
+  pub is_key : pure 34 (number 1 ∷ one_map ∷ []) ≡ Value (boolean true)
   pub no_key : pure 33 (b ∷ one_map ∷ []) ≡ badkey b
   pub no_map : pure 33 (a ∷ b ∷ []) ≡ badmap b
   pub find : pure 61 (a ∷ one_map ∷ []) ≡ Value (Atom (codes "error"))

@@ -1,9 +1,9 @@
 //! Erlang terms: which there are, their order and their print, and what tests and builtin functions give.
 //!
 //! The definitions stand in `specs/`. `Term` has the terms, `Order` their order, `TermPrint` their canonical
-//! print, `Tests` the tests by number, and `Builtins` the builtin functions without an effect by number, over a
-//! file for each family of them. A source text writes a term as an `AsmTerm`: `AsmValue` has the term that it
-//! stands for, and `Print` its own print.
+//! print, `Tests` what each test says, and `Builtins` what each builtin function without an effect gives, over a
+//! file for each family of them. Their numbers are the places in `TestNumbers` and `BuiltinNumbers`. A source text
+//! writes a term as an `AsmTerm`: `AsmValue` has the term that it stands for, and `Print` its own print.
 //!
 //! A `Text` and an `AsmTerm` hold no capacity and no address that a contract could see, so contracts
 //! compare them by `≡`. Both can be copied and compared.
@@ -12,13 +12,19 @@
 #![tactic(auto)]
 
 mod asm_term;
+mod builtin;
 mod class;
 mod laws;
+mod test;
+#[cfg(test)]
+mod tests;
 mod text;
 mod worked;
 
 pub use asm_term::AsmTerm;
+pub use builtin::Builtin;
 pub use class::Class3;
 pub use laws::{opaque_has_no_value, order_is_total, pairs_are_maps, print_is_of_value};
+pub use test::Test;
 pub use text::Text;
 pub use worked::{worked_builtins, worked_order, worked_prints};

@@ -5,15 +5,18 @@ use Rattle.ej_term.specs.declared.asm_term.AsmTerm.{AsmTerm, out-AsmTerm, fold_o
 use Rattle.ej_term.specs.declared.asm_term.AsmTerm.TheFolds.{map-AsmTerm}
 use Rattle.ej_term.specs.declared.asm_term.AsmTerm.TheOpen as o
 use Rattle.ej_term.specs.declared.asm_term.AsmTerm.TheOpen.{AsmTerm-F}
-use Rattle.genop_table.specs.declared.instructions.Part.{Part}
-use Rattle.genop_table.specs.declared.instructions.Part.TheVariants as part
-use Rattle.genop_table.specs.Instructions.{shape_of}
+use Rattle.genop_table.specs.declared.part.Limit.{Limit}
+use Rattle.genop_table.specs.declared.part.Part.{Part}
+use Rattle.genop_table.specs.declared.part.Part.TheVariants as part
+use Rattle.genop_table.specs.declared.part.Place.{Place}
+use Rattle.genop_table.specs.Instructions.{Instruction as Row}
 use Rattle.beam_code.specs.declared.operand.Operand.{Operand}
 use Rattle.beam_code.specs.declared.operand.Operand.TheVariants as operand
 use Rattle.beam_code.specs.declared.operand.Src.{Src}
 use Rattle.beam_code.specs.declared.operand.Src.TheVariants as source
-use Rattle.beam_code.specs.Accepted.{is_atom_name}
-use Rattle.beam_code.specs.Fits.{fits, most_of_all}
+use Rattle.erjang_top.specs.first_path.Accepted.{is_atom_name}
+use Rattle.beam_code.specs.declared.operand.TheConstants.{LAST_COUNT}
+use Rattle.beam_code.specs.Fits.{fits}
 use Rattle.beam_code.specs.Keys.{Key, is_among}
 use Rattle.beam_code.specs.Parts.{Instruction, fitting, FunctionParts, ModuleParts}
 use Rattle.asm_terms.specs.Numbers.{has_64_bits}
@@ -22,7 +25,7 @@ use Rattle.asm_module.specs.declared.fault.FormFault.TheVariants.{BadForm}
 use Rattle.asm_module.specs.Terms.{is_word, atom_in, atom, integer_in, integer, up_to, number, tuple_in, tuple, Tagged, tagged_parts, tagged, pair_of, pair, pair_with, behind}
 use Rattle.asm_module.specs.Operands.{register_named, nil_named, value_named, nil_of, source_paired, source_of, external_with, external_parts, external_tagged, external_of, operand_of, is_need, one, kept_of, operands_of}
 use Rattle.asm_module.specs.Instructions as forms
-use Rattle.asm_module.specs.Instructions.{Written, written_tagged, written_in, written, terms_of, row_named, is_strange, stranger, row_of, number_in, bare, in_tuple, by_terms, by_parts, by_shape, instruction_of, or_stranger, or_strange, or_unknown, or_nameless, instruction}
+use Rattle.asm_module.specs.Instructions.{Written, written_tagged, written_in, written, terms_of, row_named, is_strange, stranger, row_of, number_in, bare, in_tuple, by_terms, instruction_of, or_stranger, or_strange, or_unknown, or_nameless, instruction}
 use Rattle.asm_module.specs.Modules.{Heading, key_of, heading_with, heading_of, heading_parts, heading_tagged, heading, keys_of, or_bad, ◌>>=◌, begins_new, begins, Rest, with_instruction, function_with, with_function, then_rest, is_function, rest_of, functions_from, functions_of, Header, nothing, Headed, with_forms, header_form, next_form, header_of, if_named, module_name, reading}
 use Rattle.erjang_top.proofs.GoodTerms.{good_step, good, Good, EachGood, parts-all}
 
@@ -183,20 +186,20 @@ external_of-good : (m : Option Tagged) → SomeOperand (option_and_then external
 external_of-good None = tt
 external_of-good (Some p) = either SomeOperand (is_word p.0 (codes "extfunc")) (external_parts-good p.1) tt
 
-operand-good : (row number : ℕ) (p : Part) (t : AsmTerm) → Good t → SomeOperand (operand_of row number p t)
-operand-good row number part.Src t h = if-map GoodSrc GoodOperand operand.Src (source_of t) (source-good t h) (λ s k. k)
-operand-good row number part.Reg t h = made GoodOperand operand.Reg (λ x. tt) _
-operand-good row number part.Label t h = made GoodOperand operand.Label (λ x. tt) _
-operand-good row number part.Count t h = made GoodOperand operand.Count (λ x. tt) _
-operand-good row number part.Name t h = tt
-operand-good row number part.Ext t h = external_of-good (tagged t)
-operand-good row number part.Srcs t h = made GoodOperand operand.Srcs (λ x. tt) _
-operand-good row number part.Cases t h = made GoodOperand operand.Cases (λ x. tt) _
-operand-good row number part.Arities t h = made GoodOperand operand.Cases (λ x. tt) _
-operand-good row number part.Pairs t h = made GoodOperand operand.Pairs (λ x. tt) _
-operand-good row number part.Gets t h = made GoodOperand operand.Gets (λ x. tt) _
-operand-good row number part.Regs t h = made GoodOperand operand.Regs (λ x. tt) _
-operand-good row number _ t h = tt
+operand-good : (l : Limit) (number : ℕ) (p : Part) (t : AsmTerm) → Good t → SomeOperand (operand_of l number p t)
+operand-good l number part.Src t h = if-map GoodSrc GoodOperand operand.Src (source_of t) (source-good t h) (λ s k. k)
+operand-good l number part.Reg t h = made GoodOperand operand.Reg (λ x. tt) _
+operand-good l number part.Label t h = made GoodOperand operand.Label (λ x. tt) _
+operand-good l number part.Count t h = made GoodOperand operand.Count (λ x. tt) _
+operand-good l number part.Name t h = tt
+operand-good l number part.Ext t h = external_of-good (tagged t)
+operand-good l number part.Srcs t h = made GoodOperand operand.Srcs (λ x. tt) _
+operand-good l number part.Cases t h = made GoodOperand operand.Cases (λ x. tt) _
+operand-good l number part.Arities t h = made GoodOperand operand.Cases (λ x. tt) _
+operand-good l number part.Pairs t h = made GoodOperand operand.Pairs (λ x. tt) _
+operand-good l number part.Gets t h = made GoodOperand operand.Gets (λ x. tt) _
+operand-good l number part.Regs t h = made GoodOperand operand.Regs (λ x. tt) _
+operand-good l number _ t h = tt
 
 abbrev SomeOperands : Option (List Operand) → Type 0
 SomeOperands m = IfSome m EachOperand
@@ -204,23 +207,23 @@ SomeOperands m = IfSome m EachOperand
 one-good : (m : Option Operand) → SomeOperand m → SomeOperands (option_map one m)
 one-good m h = if-map GoodOperand EachOperand one m h (λ x k. (k, tt))
 
-kept-good : (row number : ℕ) (p : Part) (t : AsmTerm) → Good t → SomeOperands (kept_of row number p t)
+kept-good : (l : Limit) (number : ℕ) (p : Part) (t : AsmTerm) → Good t → SomeOperands (kept_of l number p t)
 unfolding kept_of
-kept-good row number part.Need t h = either SomeOperands (is_need t) tt tt
-kept-good row number part.Any t h = tt
-kept-good row number p t h = one-good (operand_of row number p t) (operand-good row number p t h)
+kept-good l number part.Need t h = either SomeOperands (is_need t) tt tt
+kept-good l number part.Any t h = tt
+kept-good l number p t h = one-good (operand_of l number p t) (operand-good l number p t h)
 
 joined-good : (xs ys : List Operand) → EachOperand xs → EachOperand ys → EachOperand (xs ++ ys)
 joined-good [] ys h k = k
 joined-good (x ∷ xs) ys h k = (h.0, joined-good xs ys h.1 k)
 
-operands-good : (row number : ℕ) (parts : List Part) (ts : List AsmTerm) → EachGood ts → SomeOperands (operands_of row number parts ts)
-operands-good row number [] [] h = tt
-operands-good row number [] (t ∷ ts) h = tt
-operands-good row number (p ∷ parts) [] h = tt
-operands-good row number (p ∷ parts) (t ∷ ts) h =
-    if-then EachOperand EachOperand (λ first. option_map (λ rest. first ++ rest) (operands_of row number parts ts)) (kept_of row number p t) (kept-good row number p t h.0)
-    (λ first k. if-map EachOperand EachOperand (λ rest. first ++ rest) (operands_of row number parts ts) (operands-good row number parts ts h.1) (λ rest l. joined-good first rest k l))
+operands-good : (number : ℕ) (places : List Place) (ts : List AsmTerm) → EachGood ts → SomeOperands (operands_of number places ts)
+operands-good number [] [] h = tt
+operands-good number [] (t ∷ ts) h = tt
+operands-good number (p ∷ places) [] h = tt
+operands-good number (p ∷ places) (t ∷ ts) h =
+    if-then EachOperand EachOperand (λ first. option_map (λ rest. first ++ rest) (operands_of number places ts)) (kept_of p.limit number p.part t) (kept-good p.limit number p.part t h.0)
+    (λ first k. if-map EachOperand EachOperand (λ rest. first ++ rest) (operands_of number places ts) (operands-good number places ts h.1) (λ rest l. joined-good first rest k l))
 
 -- ---- instructions
 
@@ -243,19 +246,20 @@ written-good t h = by (atom t)
     by (Some name) = tt
     by None = if-map GoodTagged GoodWritten written_tagged (tagged t) (tagged-good t h) (λ p k. k.1)
 
-by_terms-good : (row : ℕ) (parts : List Part) (m : Option (List AsmTerm)) → IfSome m EachGood → SomeInstruction (by_terms row parts m)
-by_terms-good row parts None h = either SomeInstruction (nat_eq (length parts) 0) (fitting-good row [] tt) tt
-by_terms-good row parts (Some ts) h =
-    either SomeInstruction (nat_eq (length parts) 0) tt
-    (if-then EachOperand GoodInstruction (fitting row) (operands_of row (number_in row ts) parts ts) (operands-good row (number_in row ts) parts ts h) (λ operands k. fitting-good row operands k))
+by_terms-good : (row : Row) (m : Option (List AsmTerm)) → IfSome m EachGood → SomeInstruction (by_terms row m)
+by_terms-good row None h = either SomeInstruction (nat_eq (length row.places) 0) (fitting-good row.entry.number [] tt) tt
+by_terms-good row (Some ts) h =
+    either SomeInstruction (nat_eq (length row.places) 0) tt
+    (if-then EachOperand GoodInstruction (fitting row.entry.number) (operands_of (number_in row.genop ts) row.places ts) (operands-good (number_in row.genop ts) row.places ts h)
+    (λ operands k. fitting-good row.entry.number operands k))
 
-by_shape-good : (row : ℕ) (w : Written) (shape : Option (List Part)) → GoodWritten w → SomeInstruction (by_shape row w shape)
-by_shape-good row w None h = tt
-by_shape-good row w (Some parts) h = by_terms-good row parts w.terms h
-
-instruction_of-good : (row : ℕ) (w : Written) → GoodWritten w → SomeInstruction (instruction_of row w)
+instruction_of-good : (row : Row) (w : Written) → GoodWritten w → SomeInstruction (instruction_of row w)
 unfolding instruction_of
-instruction_of-good row w h = by_shape-good row w (shape_of row) h
+instruction_of-good row w h = by_terms-good row w.terms h
+
+found-good : (row : Option Row) (w : Written) → GoodWritten w → SomeInstruction (option_and_then (λ r. instruction_of r w) row)
+found-good None w h = tt
+found-good (Some row) w h = instruction_of-good row w h
 
 abbrev OkInstruction : Result Instruction FormFault → Type 0
 OkInstruction r = IfOk r GoodInstruction
@@ -264,13 +268,13 @@ or_bad-good : (func index : ℕ) (m : Option Instruction) → SomeInstruction m 
 or_bad-good func index None h = tt
 or_bad-good func index (Some i) h = h
 
-or_stranger-good : (func index row : ℕ) (w : Written) (m : Option (List ℕ)) → GoodWritten w → OkInstruction (or_stranger func index row w m)
+or_stranger-good : (func index : ℕ) (row : Row) (w : Written) (m : Option (List ℕ)) → GoodWritten w → OkInstruction (or_stranger func index row w m)
 or_stranger-good func index row w (Some name) h = tt
-or_stranger-good func index row w None h = or_bad-good func index (instruction_of (row_of row (terms_of w)) w) (instruction_of-good (row_of row (terms_of w)) w h)
+or_stranger-good func index row w None h = or_bad-good func index (option_and_then (λ r. instruction_of r w) (row_of row (terms_of w))) (found-good (row_of row (terms_of w)) w h)
 
-or_unknown-good : (func index : ℕ) (t : AsmTerm) (w : Written) (m : Option ℕ) → GoodWritten w → OkInstruction (or_unknown func index t w m)
+or_unknown-good : (func index : ℕ) (t : AsmTerm) (w : Written) (m : Option Row) → GoodWritten w → OkInstruction (or_unknown func index t w m)
 or_unknown-good func index t w None h = tt
-or_unknown-good func index t w (Some row) h = either OkInstruction (is_strange t w) tt (or_stranger-good func index row w (stranger row (terms_of w)) h)
+or_unknown-good func index t w (Some row) h = either OkInstruction (is_strange t w) tt (or_stranger-good func index row w (stranger row.genop (terms_of w)) h)
 
 or_nameless-good : (func index : ℕ) (t : AsmTerm) (m : Option Written) → IfSome m GoodWritten → OkInstruction (or_nameless func index t m)
 or_nameless-good func index t None h = tt
@@ -282,28 +286,28 @@ instruction-good func index t h = or_nameless-good func index t (written t) (wri
 -- ---- functions
 
 abbrev GoodHeading : Heading → Type 0
-GoodHeading h = Name h.name × UpTo 255 h.arity × UpTo most_of_all h.entry
+GoodHeading h = Name h.name × UpTo 255 h.arity × UpTo LAST_COUNT h.entry
 
 abbrev pub EachInstruction : List Instruction → Type 0
 EachInstruction [] = ⊤
 EachInstruction (i ∷ code) = GoodInstruction i × EachInstruction code
 
 abbrev pub GoodFunction : FunctionParts → Type 0
-GoodFunction f = (Name f.name × UpTo 255 f.arity × UpTo most_of_all f.entry) × EachInstruction f.code
+GoodFunction f = (Name f.name × UpTo 255 f.arity × UpTo LAST_COUNT f.entry) × EachInstruction f.code
 
 abbrev pub EachFunction : List FunctionParts → Type 0
 EachFunction [] = ⊤
 EachFunction (f ∷ fs) = GoodFunction f × EachFunction fs
 
-heading_with-good : (name : List ℕ) (a e : Option ℕ) → Name name → IfSome a (UpTo 255) → IfSome e (UpTo most_of_all) → IfSome (heading_with name a e) GoodHeading
+heading_with-good : (name : List ℕ) (a e : Option ℕ) → Name name → IfSome a (UpTo 255) → IfSome e (UpTo LAST_COUNT) → IfSome (heading_with name a e) GoodHeading
 heading_with-good name None e n h k = tt
 heading_with-good name (Some a) None n h k = tt
 heading_with-good name (Some a) (Some e) n h k = (n, h, k)
 
 heading_of-good : (name arity entry : AsmTerm) → Good name → IfSome (heading_of name arity entry) GoodHeading
 heading_of-good name arity entry h =
-    if-then Name GoodHeading (λ n. heading_with n (number 255 arity) (number most_of_all entry)) (atom name) (atom-good name h)
-    (λ n k. heading_with-good n (number 255 arity) (number most_of_all entry) k (number-good 255 arity) (number-good most_of_all entry))
+    if-then Name GoodHeading (λ n. heading_with n (number 255 arity) (number LAST_COUNT entry)) (atom name) (atom-good name h)
+    (λ n k. heading_with-good n (number 255 arity) (number LAST_COUNT entry) k (number-good 255 arity) (number-good LAST_COUNT entry))
 
 heading_parts-good : (ts : List AsmTerm) → EachGood ts → IfSome (heading_parts ts) GoodHeading
 heading_parts-good [] h = tt

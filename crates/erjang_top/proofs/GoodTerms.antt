@@ -18,7 +18,7 @@ use Rattle.asm_terms.specs.Tokens.{form_tokens}
 use Rattle.asm_terms.specs.declared.token.Token.{Token}
 use Rattle.asm_terms.specs.Grammar.{IsTerm, int, atom, string, «opaque», pid, reference, external, empty_tuple, filled_tuple, empty_list, filled_list, empty_map, filled_map, AreMoreParts, no_part, part, AreMoreElements, no_element, element, bar, AreMorePairs, no_pair, pair}
 use Rattle.asm_module.specs.Terms as terms
-use Rattle.beam_code.specs.Accepted.{is_atom_name}
+use Rattle.erjang_top.specs.first_path.Accepted.{is_atom_name}
 use Rattle.term_text.proofs.GoodTokens.{AllGood, AreScalars, form-left}
 
 -- in a term's parts but those of its lists and maps, once it is known of its parts

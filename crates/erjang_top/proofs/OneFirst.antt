@@ -6,7 +6,7 @@ use Rattle.asm_terms.specs.Forms as text
 use Rattle.asm_module.specs.declared.fault.FormFault.{FormFault}
 use Rattle.asm_module.specs.declared.fault.FormFault.TheVariants as forms
 use Rattle.beam_code.specs.declared.module.Module.{Module}
-use Rattle.beam_code.specs.Accepted.{Accepted}
+use Rattle.erjang_top.specs.first_path.Accepted.{Accepted}
 use Rattle.beam_code.specs.Labels as labels
 use Rattle.beam_code.specs.Labels.{Break}
 use Rattle.ej_outside.specs.Shelf.{Files}

@@ -5,8 +5,10 @@ use Rattle.asm_terms.specs.Forms.{AreForms}
 use Rattle.asm_module.specs.declared.fault.FormFault.{FormFault}
 use Rattle.asm_module.specs.Modules.{reading}
 use Rattle.beam_code.specs.declared.module.Module.{Module}
+use Rattle.beam_code.specs.Code.{module_code}
 use Rattle.beam_code.specs.Labels.{Break, first_break}
 use Rattle.beam_code.specs.Parts.{ModuleParts, module_parts}
+use Rattle.beam_code.proofs.FirstBreak.{unbroken as unbroken_law}
 use Rattle.beam_code.proofs.PartsLaw.{same_parts}
 use Rattle.erjang_top.specs.Sources.{Reads, HasFormFault, HasBreak}
 use Rattle.erjang_top.proofs.Reading.{same_forms}
@@ -38,16 +40,16 @@ one_form_fault bytes e f a b = err_told e f (same_reading bytes a.forms b.forms 
 
 pub one_break : (bytes : List ℕ) (x y : Break) → HasBreak bytes x → HasBreak bytes y → x ≡ y
 one_break bytes x y a b =
-    let parts = ok_told _ _ (same_reading bytes a.forms b.forms _ _ a.are_forms b.are_forms a.reads b.reads) in
-    some_told x y (sym a.first ∙ ap first_break parts ∙ b.first)
+    let parts = ok_told _ _ (same_reading bytes a.forms b.forms _ _ a.are_forms b.are_forms a.stands b.stands) in
+    some_told x y (sym a.first ∙ ap (λ m. first_break (module_code m)) (same_parts a.read b.read parts) ∙ b.first)
 
 pub fault_or_break : {G : Type 0} (bytes : List ℕ) (e : FormFault) (x : Break) → HasFormFault bytes e → HasBreak bytes x → G
-fault_or_break bytes e x a b = clash b.parts e (same_reading bytes b.forms a.forms _ _ b.are_forms a.are_forms b.reads a.first)
+fault_or_break bytes e x a b = clash (module_parts b.read) e (same_reading bytes b.forms a.forms _ _ b.are_forms a.are_forms b.stands a.first)
 
 pub fault_or_module : {G : Type 0} (bytes : List ℕ) (e : FormFault) (m : Module) → HasFormFault bytes e → Reads bytes m → G
 fault_or_module bytes e m a b = clash (module_parts m) e (same_reading bytes b.forms a.forms _ _ b.are_forms a.are_forms b.stands a.first)
 
 pub break_or_module : {G : Type 0} (bytes : List ℕ) (x : Break) (m : Module) → HasBreak bytes x → Reads bytes m → G
 break_or_module bytes x m a b =
-    let parts = ok_told _ _ (same_reading bytes b.forms a.forms _ _ b.are_forms a.are_forms b.stands a.reads) in
-    unbroken x (sym b.keeps_labels ∙ ap first_break parts ∙ a.first)
+    let parts = ok_told _ _ (same_reading bytes b.forms a.forms _ _ b.are_forms a.are_forms b.stands a.stands) in
+    unbroken x (sym (unbroken_law (module_code m) b.keeps_labels) ∙ ap (λ n. first_break (module_code n)) (same_parts m a.read parts) ∙ a.first)

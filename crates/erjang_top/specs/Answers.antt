@@ -11,7 +11,7 @@ use Rattle.asm_terms.specs.Forms.{FirstFault}
 use Rattle.ej_outside.specs.Counts.{Same, Rises}
 use Rattle.ej_outside.specs.Shelf.{Files, ShelfState, MayReplace}
 use Rattle.ej_outside.specs.Sink.{SinkState}
-use Rattle.erjang_top.specs.Emitted.{Emitted}
+use Rattle.erjang_top.specs.first_path.Emitted.{Emitted}
 use Rattle.erjang_top.specs.Mangle.{mangle}
 use Rattle.erjang_top.specs.Sources.{IsSource, HasFormFault, HasBreak, IsNotBuilt}
 use Rattle.erjang_top.specs.Words.{Compile}

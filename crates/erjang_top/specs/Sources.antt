@@ -1,21 +1,21 @@
 -- What the bytes of a source are: the source of a module that is compiled, or what is wrong with them first.
-use Rattle.std.specs.Prelude.{◌≡◌, List, ℕ, None, Some, Ok}
+use Rattle.std.specs.Prelude.{◌≡◌, List, ℕ, Some}
 use Rattle.ej_term.specs.declared.asm_term.AsmTerm.{AsmTerm}
 use Rattle.asm_terms.specs.Forms.{AreForms}
 use Rattle.asm_module.specs.declared.fault.FormFault.{FormFault}
 use Rattle.asm_module.specs.Modules as modules
-use Rattle.asm_module.specs.Modules.{reading, Stands}
+use Rattle.asm_module.specs.Modules.{Stands}
 use Rattle.beam_code.specs.declared.module.Module.{Module}
-use Rattle.beam_code.specs.Accepted.{Accepted}
-use Rattle.beam_code.specs.Labels.{Break, first_break}
-use Rattle.beam_code.specs.Parts.{ModuleParts, module_parts}
+use Rattle.erjang_top.specs.first_path.Accepted.{Accepted}
+use Rattle.beam_code.specs.Code.{module_code}
+use Rattle.beam_code.specs.Labels.{Break, first_break, KeepsLabelRules}
 
 -- the bytes read as the forms of a module that keeps the label rules
 pub record Reads (bytes : List ℕ) (m : Module) : Type 0 where
   pub forms : List AsmTerm
   pub are_forms : AreForms bytes forms
   pub stands : Stands forms m
-  pub keeps_labels : first_break (module_parts m) ≡ None
+  pub keeps_labels : KeepsLabelRules (module_code m)
 
 -- the bytes are the source of that module, and it is compiled
 abbrev pub IsSource : List ℕ → Module → Type 0
@@ -31,9 +31,9 @@ pub record HasFormFault (bytes : List ℕ) (fault : FormFault) : Type 0 where
 pub record HasBreak (bytes : List ℕ) (broken : Break) : Type 0 where
   pub forms : List AsmTerm
   pub are_forms : AreForms bytes forms
-  pub parts : ModuleParts
-  pub reads : reading forms ≡ Ok parts
-  pub first : first_break parts ≡ Some broken
+  pub read : Module
+  pub stands : Stands forms read
+  pub first : first_break (module_code read) ≡ Some broken
 
 -- the bytes read as the forms of a module that keeps the label rules, and it is not compiled
 abbrev pub IsNotBuilt : List ℕ → Type 0

@@ -20,7 +20,7 @@ use Rattle.erjang_top.specs.declared.fault.Refusal.TheVariants as refusal
 use Rattle.erjang_top.specs.declared.compile.ReadyClass.{ReadyClass}
 use Rattle.erjang_top.specs.declared.words.CompileWords.{CompileWords}
 use Rattle.erjang_top.specs.Answers.{Refusal, Absent, Longer, BadText, TooDeep, BadForm, OutsideProfile, BadInstruction, Twice, Missing, BadEntry, BadArity, NotBuilt, HasCause, Refused, Unchanged, Compiled, PutFailed, Told, SameCounts, TookAll, TookFront, Says, cause_text, class_file, longest_file}
-use Rattle.erjang_top.specs.Emitted.{Emitted}
+use Rattle.erjang_top.specs.first_path.Emitted.{Emitted}
 use Rattle.erjang_top.specs.Sources.{IsSource}
 use Rattle.erjang_top.specs.Words.{Compile}
 
@@ -62,7 +62,7 @@ fault_of_labels (label_fault.Twice label) = fault.Refused (refusal.Twice label)
 fault_of_labels (label_fault.Missing func index label) = fault.Refused (refusal.Missing func index label)
 fault_of_labels (label_fault.BadEntry func) = fault.Refused (refusal.BadEntry func)
 fault_of_labels (label_fault.BadArity func index) = fault.Refused (refusal.BadArity func index)
-fault_of_labels (label_fault.NoMemory e) = fault.NoMemory
+fault_of_labels label_fault.NoMemory = fault.NoMemory
 
 -- the first fault of a source that is not read
 abbrev pub GetsFault : List ℕ → ShelfState → Fault → ShelfState → Type 0

@@ -4,8 +4,8 @@ ghost use Rattle.std.specs.Prelude.{◌≡◌, ◌++◌, codes, IfOk, string_byt
 ghost use Rattle.erjang_top.specs.Answers.{class_file};
 ghost use Rattle.erjang_top.specs.Work.{GetsSource, Builds, Works, seen_words};
 
-use crate::emit::emit;
 use crate::fault::{Fault, Refusal};
+use crate::first_path::emit::emit;
 use crate::mangle::mangle;
 use crate::source::read_source;
 use crate::words::CompileWords;

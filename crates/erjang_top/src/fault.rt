@@ -134,7 +134,7 @@ impl From<LabelFault> for Fault {
             LabelFault::BadArity { func, index } => {
                 Fault::Refused(Refusal::BadArity { func, index })
             }
-            LabelFault::NoMemory(_) => Fault::NoMemory,
+            LabelFault::NoMemory => Fault::NoMemory,
         }
     }
 }

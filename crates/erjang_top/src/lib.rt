@@ -1,24 +1,21 @@
 //! The program: its words, what it does with files, and what it answers.
 #![tactic(auto)]
 
-mod accept;
-mod code;
 mod compile;
-mod emit;
 mod fault;
+mod first_path;
 #[cfg(test)]
 mod instruction_cases;
-mod laws;
 mod mangle;
 mod program;
 mod report;
-mod scripts;
 mod source;
 #[cfg(test)]
+mod source_rows;
+#[cfg(test)]
 mod tests;
-mod values;
 mod words;
 
-pub use laws::read_modules_are_in_range;
+pub use first_path::laws::read_modules_are_in_range;
+pub use first_path::scripts::worked_runs;
 pub use program::erjang;
-pub use scripts::worked_runs;

@@ -5,8 +5,8 @@
 
 ghost use Rattle.erjang_top.specs.Work.{ReadsSource};
 
-use crate::accept::accepts;
 use crate::fault::{Fault, Refusal};
+use crate::first_path::accept::accepts;
 use asm_module::module_of;
 use asm_terms::read_forms;
 use beam_code::Module;

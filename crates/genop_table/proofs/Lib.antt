@@ -1,2 +1,1 @@
-mod ArityLemmas
-mod ShapeLemmas
+mod Found

@@ -1,132 +1,110 @@
-//! The instructions.
+//! The table of instructions.
 
 ghost use Rattle.std.specs.Prelude.{◌≡◌, true, [], map};
 ghost use Rattle.std.specs.Option.{option_map};
 ghost use Rattle.ej_tables.specs.Rows.{number_of};
 ghost use Rattle.genop_table.specs.InstructionRows.{instruction_of};
-ghost use Rattle.genop_table.specs.Instructions.{instructions, instruction_entries, shape_of, are_numbered, count_spellings};
+ghost use Rattle.genop_table.specs.Instructions.{instructions, instruction_entries, row_of, shape_of, spelling_of, are_numbered, count_spellings};
 
-use Part::{Any, Arities, Cases, Count, Ext, Gets, Label, Name, Need, Pairs, Reg, Regs, Src, Srcs};
+use crate::{Genop, Limit, Part, Place};
 use ej_tables::{Numbered, TableOf};
-
-/// What stands at a place of an instruction's form.
-#[derive(Clone, Copy, Debug, PartialEq, Eq)]
-pub enum Part {
-    /// A source: `{x,N}`, `{y,N}`, `{integer,I}`, `{atom,A}`, `nil` or `{literal,T}`.
-    Src,
-    /// A register: `{x,N}` or `{y,N}`.
-    Reg,
-    /// A branch label `{f,L}`.
-    Label,
-    /// A count.
-    Count,
-    /// What is needed of the heap: a count or `{alloc,_}`.
-    Need,
-    /// The name of a test or of a guard builtin.
-    Name,
-    /// `{extfunc,M,F,A}`.
-    Ext,
-    /// A list of sources.
-    Srcs,
-    /// `{list,[V,{f,L},..]}`, with an atom or an integer as each V.
-    Cases,
-    /// `{list,[N,{f,L},..]}`, with a count as each N.
-    Arities,
-    /// `{list,[K,V,..]}`, each a source.
-    Pairs,
-    /// `{list,[K,D,..]}`, with a source as each K and a register as each D.
-    Gets,
-    /// `{list,[D,..]}`, each a register.
-    Regs,
-    /// Any term, which is not looked at.
-    Any,
-}
 
 /// A row of the table of instructions: one spelling of one instruction.
 #[derive(Clone, Copy, Debug)]
 pub struct InstructionRow {
     /// The row's number, from 1.
     pub number: u16,
+    /// Which instruction it is.
+    pub genop: Genop,
     /// The instruction's name.
     pub name: &'static str,
     /// How many earlier rows have this name.
     pub arity: u8,
-    /// What stands behind the name, place by place.
+    /// What stands behind the name, part by part.
     pub shape: &'static [Part],
+    /// The same with the limit of each part.
+    pub places: &'static [Place],
 }
 
 macro_rules! row {
-    ($number:literal, $name:literal, $arity:literal, [$($part:ident),*]) => {
-        InstructionRow { number: $number, name: $name, arity: $arity, shape: &[$($part),*] }
+    ($number:literal, $genop:ident, $name:literal, $arity:literal, [$($part:ident: $limit:ident),*]) => {
+        InstructionRow {
+            number: $number,
+            genop: Genop::$genop,
+            name: $name,
+            arity: $arity,
+            shape: &[$(Part::$part),*],
+            places: &[$(Place { part: Part::$part, limit: Limit::$limit }),*],
+        }
     };
 }
 
 /// The instructions, in order.
 static INSTRUCTIONS: [InstructionRow; 64] = [
-    row!(1, "label", 0, [Count]),
-    row!(2, "line", 0, [Any]),
-    row!(3, "%", 0, [Any]),
-    row!(4, "func_info", 0, [Src, Src, Count]),
-    row!(5, "move", 0, [Src, Reg]),
-    row!(6, "swap", 0, [Reg, Reg]),
-    row!(7, "allocate", 0, [Count, Count]),
-    row!(8, "allocate_heap", 0, [Count, Need, Count]),
-    row!(9, "test_heap", 0, [Need, Count]),
-    row!(10, "deallocate", 0, [Count]),
-    row!(11, "trim", 0, [Count, Count]),
-    row!(12, "init_yregs", 0, [Regs]),
-    row!(13, "call", 0, [Count, Label]),
-    row!(14, "call_ext", 0, [Count, Ext]),
-    row!(15, "call_fun", 0, [Count]),
-    row!(16, "apply", 0, [Count]),
-    row!(17, "call_only", 0, [Count, Label]),
-    row!(18, "call_ext_only", 0, [Count, Ext]),
-    row!(19, "call_last", 0, [Count, Label, Count]),
-    row!(20, "call_ext_last", 0, [Count, Ext, Count]),
-    row!(21, "apply_last", 0, [Count, Count]),
-    row!(22, "return", 0, []),
-    row!(23, "make_fun2", 0, [Label, Any, Any, Count]),
-    row!(24, "make_fun3", 0, [Label, Any, Any, Reg, Srcs]),
-    row!(25, "send", 0, []),
-    row!(26, "bif", 0, [Name, Label, Srcs, Reg]),
-    row!(27, "gc_bif", 0, [Name, Label, Count, Srcs, Reg]),
-    row!(28, "put_list", 0, [Src, Src, Reg]),
-    row!(29, "put_tuple2", 0, [Reg, Srcs]),
-    row!(30, "get_list", 0, [Reg, Reg, Reg]),
-    row!(31, "get_hd", 0, [Reg, Reg]),
-    row!(32, "get_tl", 0, [Reg, Reg]),
-    row!(33, "get_tuple_element", 0, [Reg, Count, Reg]),
-    row!(34, "set_tuple_element", 0, [Src, Reg, Count]),
-    row!(35, "put_map_assoc", 0, [Label, Src, Reg, Count, Pairs]),
-    row!(36, "put_map_exact", 0, [Label, Src, Reg, Count, Pairs]),
-    row!(37, "get_map_elements", 0, [Label, Src, Gets]),
-    row!(38, "jump", 0, [Label]),
-    row!(39, "select_val", 0, [Src, Label, Cases]),
-    row!(40, "select_tuple_arity", 0, [Src, Label, Arities]),
-    row!(41, "test", 0, [Name, Label, Srcs]),
-    row!(42, "test", 1, [Any, Label, Src, Srcs]),
-    row!(43, "loop_rec", 0, [Label, Reg]),
-    row!(44, "remove_message", 0, []),
-    row!(45, "timeout", 0, []),
-    row!(46, "loop_rec_end", 0, [Label]),
-    row!(47, "wait", 0, [Label]),
-    row!(48, "wait_timeout", 0, [Label, Src]),
-    row!(49, "recv_marker_reserve", 0, [Reg]),
-    row!(50, "recv_marker_bind", 0, [Reg, Reg]),
-    row!(51, "recv_marker_use", 0, [Reg]),
-    row!(52, "recv_marker_clear", 0, [Reg]),
-    row!(53, "try", 0, [Reg, Label]),
-    row!(54, "catch", 0, [Reg, Label]),
-    row!(55, "try_end", 0, [Reg]),
-    row!(56, "try_case", 0, [Reg]),
-    row!(57, "catch_end", 0, [Reg]),
-    row!(58, "badmatch", 0, [Src]),
-    row!(59, "case_end", 0, [Src]),
-    row!(60, "try_case_end", 0, [Src]),
-    row!(61, "if_end", 0, []),
-    row!(62, "bif", 1, [Any, Label, Srcs, Reg]),
-    row!(63, "raw_raise", 0, []),
-    row!(64, "build_stacktrace", 0, []),
+    row!(1, Label, "label", 0, [Count: Free]),
+    row!(2, Line, "line", 0, [Any: Free]),
+    row!(3, Comment, "%", 0, [Any: Free]),
+    row!(4, FuncInfo, "func_info", 0, [Src: Atom, Src: Atom, Count: Free]),
+    row!(5, Move, "move", 0, [Src: Free, Reg: Free]),
+    row!(6, Swap, "swap", 0, [Reg: Free, Reg: Free]),
+    row!(7, Allocate, "allocate", 0, [Count: Size, Count: Size]),
+    row!(8, AllocateHeap, "allocate_heap", 0, [Count: Size, Need: Free, Count: Size]),
+    row!(9, TestHeap, "test_heap", 0, [Need: Free, Count: Size]),
+    row!(10, Deallocate, "deallocate", 0, [Count: Size]),
+    row!(11, Trim, "trim", 0, [Count: Size, Count: Size]),
+    row!(12, InitYregs, "init_yregs", 0, [Regs: Free]),
+    row!(13, Call, "call", 0, [Count: Arguments, Label: Target]),
+    row!(14, CallExt, "call_ext", 0, [Count: Arguments, Ext: Free]),
+    row!(15, CallFun, "call_fun", 0, [Count: Arguments]),
+    row!(16, Apply, "apply", 0, [Count: Arguments]),
+    row!(17, CallOnly, "call_only", 0, [Count: Arguments, Label: Target]),
+    row!(18, CallExtOnly, "call_ext_only", 0, [Count: Arguments, Ext: Free]),
+    row!(19, CallLast, "call_last", 0, [Count: Arguments, Label: Target, Count: Size]),
+    row!(20, CallExtLast, "call_ext_last", 0, [Count: Arguments, Ext: Free, Count: Size]),
+    row!(21, ApplyLast, "apply_last", 0, [Count: Arguments, Count: Size]),
+    row!(22, Return, "return", 0, []),
+    row!(23, MakeFun2, "make_fun2", 0, [Label: Target, Any: Free, Any: Free, Count: Free]),
+    row!(24, MakeFun3, "make_fun3", 0, [Label: Target, Any: Free, Any: Free, Reg: Free, Srcs: Free]),
+    row!(25, Send, "send", 0, []),
+    row!(26, Bif, "bif", 0, [Name: Free, Label: Failure, Srcs: OfBuiltin, Reg: Free]),
+    row!(27, GcBif, "gc_bif", 0, [Name: Free, Label: Failure, Count: Size, Srcs: OfBuiltin, Reg: Free]),
+    row!(28, PutList, "put_list", 0, [Src: Free, Src: Free, Reg: Free]),
+    row!(29, PutTuple2, "put_tuple2", 0, [Reg: Free, Srcs: Free]),
+    row!(30, GetList, "get_list", 0, [Reg: Free, Reg: Free, Reg: Free]),
+    row!(31, GetHd, "get_hd", 0, [Reg: Free, Reg: Free]),
+    row!(32, GetTl, "get_tl", 0, [Reg: Free, Reg: Free]),
+    row!(33, GetTupleElement, "get_tuple_element", 0, [Reg: Free, Count: Free, Reg: Free]),
+    row!(34, SetTupleElement, "set_tuple_element", 0, [Src: Free, Reg: Free, Count: Free]),
+    row!(35, PutMapAssoc, "put_map_assoc", 0, [Label: Failure, Src: Free, Reg: Free, Count: Free, Pairs: Free]),
+    row!(36, PutMapExact, "put_map_exact", 0, [Label: Failure, Src: Free, Reg: Free, Count: Free, Pairs: Free]),
+    row!(37, GetMapElements, "get_map_elements", 0, [Label: Target, Src: Free, Gets: Free]),
+    row!(38, Jump, "jump", 0, [Label: Target]),
+    row!(39, SelectVal, "select_val", 0, [Src: Free, Label: Target, Cases: Free]),
+    row!(40, SelectTupleArity, "select_tuple_arity", 0, [Src: Free, Label: Target, Arities: Free]),
+    row!(41, Test, "test", 0, [Name: Free, Label: Target, Srcs: OfTest]),
+    row!(42, HasMapFields, "test", 1, [Any: Free, Label: Target, Src: Free, Srcs: Free]),
+    row!(43, LoopRec, "loop_rec", 0, [Label: Target, Reg: Free]),
+    row!(44, RemoveMessage, "remove_message", 0, []),
+    row!(45, Timeout, "timeout", 0, []),
+    row!(46, LoopRecEnd, "loop_rec_end", 0, [Label: Target]),
+    row!(47, Wait, "wait", 0, [Label: Target]),
+    row!(48, WaitTimeout, "wait_timeout", 0, [Label: Target, Src: Free]),
+    row!(49, RecvMarkerReserve, "recv_marker_reserve", 0, [Reg: Free]),
+    row!(50, RecvMarkerBind, "recv_marker_bind", 0, [Reg: Free, Reg: Free]),
+    row!(51, RecvMarkerUse, "recv_marker_use", 0, [Reg: Free]),
+    row!(52, RecvMarkerClear, "recv_marker_clear", 0, [Reg: Free]),
+    row!(53, Try, "try", 0, [Reg: Slot, Label: Target]),
+    row!(54, Catch, "catch", 0, [Reg: Slot, Label: Target]),
+    row!(55, TryEnd, "try_end", 0, [Reg: Slot]),
+    row!(56, TryCase, "try_case", 0, [Reg: Slot]),
+    row!(57, CatchEnd, "catch_end", 0, [Reg: Slot]),
+    row!(58, Badmatch, "badmatch", 0, [Src: Free]),
+    row!(59, CaseEnd, "case_end", 0, [Src: Free]),
+    row!(60, TryCaseEnd, "try_case_end", 0, [Src: Free]),
+    row!(61, IfEnd, "if_end", 0, []),
+    row!(62, Raise, "bif", 1, [Any: Free, Label: Raises, Srcs: OfRaise, Reg: Free]),
+    row!(63, RawRaise, "raw_raise", 0, []),
+    row!(64, BuildStacktrace, "build_stacktrace", 0, []),
 ];
 
 impl Numbered for InstructionRow {
@@ -161,53 +139,30 @@ pub fn instruction(name: &[u8]) -> Option<u16>
     table().find(name, 0)
 }
 
-/// What stands behind the name in the row of that number. None where no row has it.
-pub fn shape(row: u16) -> Option<&'static [Part]>
-    ensures { option_map (λ parts. parts.now) result ≡ shape_of row }
+/// The row of that number. None where no row has it.
+pub fn row(number: u16) -> Option<InstructionRow>
+    ensures { option_map instruction_of result ≡ row_of number }
 {
-    match table().by_number(row) {
-        Some(row) => Some(row.shape),
+    match table().by_number(number) {
+        Some(row) => Some(*row),
         None => None,
     }
 }
 
-#[cfg(test)]
-mod cases {
-    use super::*;
-    use std::test::Fail;
+/// The row of that name, as UTF-8 bytes, before which so many rows have the name. None where there is none.
+#[tactic(auto, unfolding(crate::specs::Instructions::spelling_of))]
+pub fn spelling(name: &[u8], earlier: u8) -> Option<InstructionRow>
+    ensures { option_map instruction_of result ≡ spelling_of name.now earlier }
+{
+    row(table().find(name, earlier)?)
+}
 
-    #[test]
-    fn finds_instructions(rt: HostRuntime) -> Result<(), Fail> {
-        for (name, number) in [
-            ("label", Some(1)),
-            ("%", Some(3)),
-            ("move", Some(5)),
-            ("return", Some(22)),
-            ("bif", Some(26)),
-            ("gc_bif", Some(27)),
-            ("test", Some(41)),
-            ("loop_rec", Some(43)),
-            ("try", Some(53)),
-            ("raw_raise", Some(63)),
-            ("build_stacktrace", Some(64)),
-            ("raise", None),
-            ("labels", None),
-            ("", None),
-        ] {
-            assert_eq!(rt; instruction(name.as_bytes()), number);
-        }
-        Ok(())
-    }
-
-    #[test]
-    fn tells_shapes(rt: HostRuntime) -> Result<(), Fail> {
-        assert!(rt; shape(22) == Some(&[]));
-        assert!(rt; shape(26) == Some(&[Name, Label, Srcs, Reg]));
-        assert!(rt; shape(27) == Some(&[Name, Label, Count, Srcs, Reg]));
-        assert!(rt; shape(42) == Some(&[Any, Label, Src, Srcs]));
-        assert!(rt; shape(62) == Some(&[Any, Label, Srcs, Reg]));
-        assert!(rt; shape(0).is_none());
-        assert!(rt; shape(65).is_none());
-        Ok(())
+/// What stands behind the name in the row of that number. None where no row has it.
+pub fn shape(row: u16) -> Option<&'static [Part]>
+    ensures { option_map (λ parts. parts.now) result ≡ shape_of row }
+{
+    match crate::row(row) {
+        Some(row) => Some(row.shape),
+        None => None,
     }
 }

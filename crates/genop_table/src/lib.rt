@@ -7,9 +7,17 @@
 #![tactic(auto)]
 
 pub mod builtins;
+mod genop;
 pub mod instructions;
+mod part;
 pub mod tests;
+#[cfg(test)]
+mod whole_tables;
 
-pub use builtins::{builtin, erlang_arity, guard, is_guard_name, returns};
-pub use instructions::{InstructionRow, Part, instruction, shape};
-pub use tests::test;
+pub use builtins::{
+    BuiltinRow, Conduct, Standing, builtin, builtin_row, guard, is_guard_name, returns,
+};
+pub use genop::Genop;
+pub use instructions::{InstructionRow, instruction, row, shape, spelling};
+pub use part::{Limit, Part, Place};
+pub use tests::{TestArguments, test, test_arguments};

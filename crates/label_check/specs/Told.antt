@@ -10,7 +10,7 @@ TellsFault (fault.Twice label) first = first ≡ Some (Twice label)
 TellsFault (fault.Missing func index label) first = first ≡ Some (Missing func index label)
 TellsFault (fault.BadEntry func) first = first ≡ Some (BadEntry func)
 TellsFault (fault.BadArity func index) first = first ≡ Some (BadArity func index)
-TellsFault (fault.NoMemory e) first = ⊤
+TellsFault fault.NoMemory first = ⊤
 
 -- Ok is that there is none
 abbrev pub Tells : Result (Unit {0}) LabelFault → Option Break → Type 0

@@ -1,13 +1,14 @@
 //! The arguments and free variables of what an instruction names.
 
-ghost use Rattle.std.specs.Prelude.{◌≡◌, ℕ, nat_eq, map, length, IfOk};
+ghost use Rattle.std.specs.Prelude.{◌≡◌, ℕ, nat_eq, map, IfOk};
 ghost use Rattle.indexmap.specs.IndexMap.{get};
 ghost use Rattle.beam_code.specs.Labels as spec;
-ghost use Rattle.beam_code.specs.Parts.{parts_of, function_parts};
+ghost use Rattle.beam_code.specs.Code.{function_code};
+ghost use Rattle.beam_code.specs.Seen.{callee_seen, opcode_seen};
 ghost use Rattle.label_check.specs.Seen.{seen_scope};
 
 use crate::scope::Scope;
-use beam_code::{Function, Instr, Operand, rows};
+use beam_code::{Callee, Function, Opcode};
 use indexmap::IndexMap;
 use std::alloc::{AllocError, Global};
 
@@ -17,7 +18,7 @@ pub(crate) fn arities_of(
     alloc: Global,
     functions: &[Function],
 ) -> Result<IndexMap<u32, u8>, AllocError>
-    ensures { IfOk result (λ entries. (n : ℕ) → get nat_eq entries n ≡ spec.arity_of (map function_parts functions.now) n) }
+    ensures { IfOk result (λ entries. (n : ℕ) → get nat_eq entries n ≡ spec.arity_of (map function_code functions.now) n) }
 {
     let mut entries: IndexMap<u32, u8> = IndexMap::new(alloc);
     for function in functions {
@@ -29,25 +30,25 @@ pub(crate) fn arities_of(
 }
 
 /// Whether the instruction's arguments or free variables are those of what it names.
-pub(crate) fn agrees(scope: &Scope<'_>, instr: &Instr) -> bool
-    ensures { result ≡ spec.agrees (seen_scope scope.now) (parts_of instr.now) }
+pub(crate) fn agrees(scope: &Scope<'_>, opcode: Opcode<'_>) -> bool
+    ensures { result ≡ spec.agrees (seen_scope scope.now) (opcode_seen opcode.entry) }
 {
-    let operands = instr.operands.as_slice();
-    match instr.row {
-        rows::CALL | rows::CALL_ONLY | rows::CALL_LAST => calls_rightly(scope, operands),
-        rows::CALL_EXT | rows::CALL_EXT_ONLY | rows::CALL_EXT_LAST => calls_out_rightly(operands),
-        rows::MAKE_FUN2 | rows::MAKE_FUN3 => makes_rightly(scope, operands),
+    match opcode {
+        Opcode::Call { callee, arity, .. } => calls_rightly(scope, callee, arity),
+        Opcode::MakeFun2 { entry, free } => is_at_most(scope, entry, free as usize),
+        Opcode::MakeFun3 { entry, free, .. } => is_at_most(scope, entry, free.len()),
         _ => true,
     }
 }
 
-// As many arguments as the function of that entry takes.
-fn calls_rightly(scope: &Scope<'_>, operands: &[Operand]) -> bool
-    ensures { result ≡ spec.calls_rightly (seen_scope scope.now) operands.now }
+// As many arguments as the function of that entry takes, or as are told behind the external function's name.
+fn calls_rightly(scope: &Scope<'_>, callee: Callee<'_>, count: u32) -> bool
+    ensures { result ≡ spec.calls_rightly (seen_scope scope.now) (callee_seen callee.entry) count }
 {
-    match operands {
-        [Operand::Count(count), Operand::Label(label), ..] => is_arity(scope, *label, *count),
-        _ => false,
+    match callee {
+        Callee::Local { label } => is_arity(scope, label, count),
+        Callee::External { arity, .. } => count == u32::from(arity),
+        Callee::Fun | Callee::Apply => true,
     }
 }
 
@@ -60,31 +61,7 @@ fn is_arity(scope: &Scope<'_>, label: u32, count: u32) -> bool
     }
 }
 
-// As many arguments as are told behind the external function's name.
-fn calls_out_rightly(operands: &[Operand]) -> bool
-    ensures { result ≡ spec.calls_out_rightly operands.now }
-{
-    match operands {
-        [Operand::Count(count), Operand::Ext(_, _, arity), ..] => *count == u32::from(*arity),
-        _ => false,
-    }
-}
-
 // No more free variables than the function of that entry takes arguments.
-fn makes_rightly(scope: &Scope<'_>, operands: &[Operand]) -> bool
-    ensures { result ≡ spec.makes_rightly (seen_scope scope.now) operands.now }
-{
-    match operands {
-        [Operand::Label(label), Operand::Count(count)] => {
-            is_at_most(scope, *label, *count as usize)
-        }
-        [Operand::Label(label), Operand::Reg(_), Operand::Srcs(free)] => {
-            is_at_most(scope, *label, free.len())
-        }
-        _ => false,
-    }
-}
-
 fn is_at_most(scope: &Scope<'_>, label: u32, count: usize) -> bool
     ensures { result ≡ spec.is_at_most (get nat_eq scope.now.entries.now label) count }
 {

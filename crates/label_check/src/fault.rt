@@ -35,5 +35,16 @@ pub enum LabelFault {
     },
     /// Memory was wanting.
     #[error("out of memory")]
-    NoMemory(#[from] AllocError),
+    NoMemory,
+}
+
+impl From<AllocError> for LabelFault {
+    ghost use Rattle.std.specs.Prelude.{◌≡◌};
+    ghost use Rattle.label_check.specs.declared.fault.LabelFault.TheVariants.{NoMemory};
+
+    ghost from_gives = { λ _ e. e ≡ NoMemory };
+
+    fn from(_: AllocError) -> LabelFault {
+        LabelFault::NoMemory
+    }
 }

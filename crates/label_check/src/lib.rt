@@ -7,7 +7,6 @@
 
 mod arity;
 mod beginning;
-mod broken;
 #[cfg(test)]
 mod cases;
 mod fault;

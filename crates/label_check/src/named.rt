@@ -1,76 +1,114 @@
 //! The labels that an instruction names.
 
-ghost use Rattle.std.specs.Prelude.{◌≡◌, not, map};
+ghost use Rattle.std.specs.Prelude.{◌≡◌, not, map, [], ◌∷◌};
 ghost use Rattle.std.specs.List.{find};
 ghost use Rattle.beam_code.specs.Labels as spec;
-ghost use Rattle.beam_code.specs.Parts.{parts_of};
+ghost use Rattle.beam_code.specs.Seen.{callee_seen, opcode_seen};
 ghost use Rattle.label_check.specs.Seen.{seen_scope};
 
 use crate::scope::Scope;
-use beam_code::{Instr, Operand, Src, rows};
+use beam_code::{Callee, Opcode, Src};
 
 /// The first label that the instruction names and may not.
-pub(crate) fn missing(scope: &Scope<'_>, instr: &Instr) -> Option<u32>
-    ensures { result ≡ spec.missing (seen_scope scope.now) (parts_of instr.now) }
+pub(crate) fn missing(scope: &Scope<'_>, opcode: Opcode<'_>) -> Option<u32>
+    ensures { result ≡ spec.missing (seen_scope scope.now) (opcode_seen opcode.entry) }
 {
-    for operand in instr.operands.as_slice() {
-        if let Some(label) = missing_in(scope, instr.row, operand) {
-            return Some(label);
-        }
+    match missing_entry(scope, entry_named(opcode)) {
+        Some(label) => Some(label),
+        None => missing_label(scope, opcode),
     }
-    None
 }
 
-fn missing_in(scope: &Scope<'_>, row: u16, operand: &Operand) -> Option<u32>
-    ensures { result ≡ find (λ label. not (spec.is_known (seen_scope scope.now) row label)) (spec.labels_in operand.now) }
+// The entry of a function of the module that the instruction names.
+fn entry_named(opcode: Opcode<'_>) -> Option<u32>
+    ensures { result ≡ spec.entry_named (opcode_seen opcode.entry) }
 {
-    match operand {
-        Operand::Label(label) => missing_label(scope, row, *label),
-        Operand::Cases(cases) => missing_case(scope, row, cases.as_slice()),
+    match opcode {
+        Opcode::Call { callee, .. } => entry_called(callee),
+        Opcode::MakeFun2 { entry, .. } | Opcode::MakeFun3 { entry, .. } => Some(entry),
         _ => None,
     }
 }
 
-// Label 0 is none.
-fn missing_label(scope: &Scope<'_>, row: u16, label: u32) -> Option<u32>
-    ensures { result ≡ find (λ label. not (spec.is_known (seen_scope scope.now) row label)) (spec.label_operand label) }
+fn entry_called(callee: Callee<'_>) -> Option<u32>
+    ensures { result ≡ spec.entry_called (callee_seen callee.entry) }
 {
-    if label == 0 {
-        return None;
+    match callee {
+        Callee::Local { label } => Some(label),
+        _ => None,
     }
-    if is_known(scope, row, label) {
+}
+
+// The entry, where no function has it.
+fn missing_entry(scope: &Scope<'_>, label: Option<u32>) -> Option<u32>
+    ensures { result ≡ spec.no_entry (seen_scope scope.now) label }
+{
+    let label = label?;
+    if scope.entries.contains_key(&label) {
         return None;
     }
     Some(label)
 }
 
-fn missing_case(scope: &Scope<'_>, row: u16, cases: &[(Src, u32)]) -> Option<u32>
-    ensures { result ≡ find (λ label. not (spec.is_known (seen_scope scope.now) row label)) (map (λ c. c.1) cases.now) }
+// The first label of its own function that the instruction names, and that is not there.
+fn missing_label(scope: &Scope<'_>, opcode: Opcode<'_>) -> Option<u32>
+    ensures { result ≡ find (λ label. not ((seen_scope scope.now).is_own label)) (spec.labels_named (opcode_seen opcode.entry)) }
+{
+    match opcode {
+        Opcode::Bif { fail, .. } | Opcode::PutMap { fail, .. } => missing_failure(scope, fail),
+        Opcode::SelectVal { fail, cases, .. } | Opcode::SelectTupleArity { fail, cases, .. } => {
+            missing_choice(scope, fail, cases)
+        }
+        Opcode::GetMapElements { fail, .. }
+        | Opcode::Test { fail, .. }
+        | Opcode::TestArity { fail, .. }
+        | Opcode::IsTaggedTuple { fail, .. }
+        | Opcode::HasMapFields { fail, .. }
+        | Opcode::LoopRec { fail, .. } => missing_own(scope, fail),
+        Opcode::Jump { label }
+        | Opcode::LoopRecEnd { label }
+        | Opcode::Wait { label }
+        | Opcode::WaitTimeout { label, .. } => missing_own(scope, label),
+        Opcode::Try { handler, .. } => missing_own(scope, handler),
+        _ => None,
+    }
+}
+
+fn missing_own(scope: &Scope<'_>, label: u32) -> Option<u32>
+    ensures { result ≡ find (λ n. not ((seen_scope scope.now).is_own n)) (label ∷ []) }
+{
+    if scope.own.contains(&label) {
+        return None;
+    }
+    Some(label)
+}
+
+// Label 0 is none.
+fn missing_failure(scope: &Scope<'_>, label: u32) -> Option<u32>
+    ensures { result ≡ find (λ n. not ((seen_scope scope.now).is_own n)) (spec.failure label) }
+{
+    if label == 0 {
+        return None;
+    }
+    missing_own(scope, label)
+}
+
+fn missing_choice(scope: &Scope<'_>, fail: u32, cases: &[(Src, u32)]) -> Option<u32>
+    ensures { result ≡ find (λ n. not ((seen_scope scope.now).is_own n)) (fail ∷ map (λ c. c.1) cases.now) }
+{
+    match missing_own(scope, fail) {
+        Some(label) => Some(label),
+        None => missing_case(scope, cases),
+    }
+}
+
+fn missing_case(scope: &Scope<'_>, cases: &[(Src, u32)]) -> Option<u32>
+    ensures { result ≡ find (λ n. not ((seen_scope scope.now).is_own n)) (map (λ c. c.1) cases.now) }
 {
     for (_, label) in cases {
-        if !is_known(scope, row, *label) {
+        if !scope.own.contains(label) {
             return Some(*label);
         }
     }
     None
-}
-
-// Calls within the module, and funs, name entries of functions, the others labels of their own function.
-fn is_known(scope: &Scope<'_>, row: u16, label: u32) -> bool
-    ensures { result ≡ spec.is_known (seen_scope scope.now) row label }
-{
-    if names_entry(row) {
-        scope.entries.contains_key(&label)
-    } else {
-        scope.own.contains(&label)
-    }
-}
-
-fn names_entry(row: u16) -> bool
-    ensures { result ≡ spec.names_entry row }
-{
-    matches!(
-        row,
-        rows::CALL | rows::CALL_ONLY | rows::CALL_LAST | rows::MAKE_FUN2 | rows::MAKE_FUN3
-    )
 }

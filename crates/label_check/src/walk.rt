@@ -1,24 +1,24 @@
 //! The check of a module, function by function.
 
-ghost use Rattle.std.specs.Prelude.{◌≡◌, ◌++◌, ℕ, nat_eq, [], map, IfOk, None};
-ghost use Rattle.std.specs.Option.{option_map};
+ghost use Rattle.std.specs.Prelude.{◌≡◌, ◌++◌, ℕ, nat_eq, [], map, IfOk};
 ghost use Rattle.indexmap.specs.IndexMap.{get};
+ghost use Rattle.beam_code.specs.Code.{function_code, module_code, opcode as opcode_of};
 ghost use Rattle.beam_code.specs.Labels as spec;
-ghost use Rattle.beam_code.specs.Parts.{parts_of, function_parts, module_parts};
-ghost use Rattle.label_check.specs.Seen.{seen, seen_scope};
+ghost use Rattle.beam_code.specs.Labels.{KeepsLabelRules};
+ghost use Rattle.beam_code.specs.Seen.{opcode_seen};
+ghost use Rattle.label_check.specs.Seen.{seen_scope};
 ghost use Rattle.label_check.specs.Told.{Tells};
 
 use crate::LabelFault;
 use crate::arity::{agrees, arities_of};
 use crate::beginning::begins_well;
-use crate::broken::Broken;
 use crate::labels::{define, defined_by, defined_in};
 use crate::named::missing;
 use crate::scope::Scope;
-use beam_code::{Function, Instr, Module};
+use beam_code::{Function, Instr, Module, Opcode};
 use ej_term::Text;
 use indexmap::{IndexMap, IndexSet};
-use std::alloc::{AllocError, Global};
+use std::alloc::Global;
 
 /// Checks the label rules of a module: each function begins with a label, at most one `line`, `func_info` with the
 /// module's name and its own name and arity, and the label that is its entry; no label is defined twice; calls within the
@@ -29,117 +29,108 @@ use std::alloc::{AllocError, Global};
 /// beginning stands before its instructions and in one instruction a missing label before the arguments, or it says
 /// that memory was wanting.
 pub fn check(alloc: Global, module: &Module) -> Result<(), LabelFault>
-    ensures { Tells result (spec.first_break (module_parts «module».now)) }
+    ensures first { Tells result (spec.first_break (module_code «module».now)) }
+    ensures kept { IfOk result (λ _. KeepsLabelRules (module_code «module».now)) }
 {
-    match first_break(alloc, &module.name, module.functions.as_slice()) {
-        Ok(None) => Ok(()),
-        Ok(Some(Broken::Twice { label })) => Err(LabelFault::Twice { label }),
-        Ok(Some(Broken::Missing { func, index, label })) => Err(LabelFault::Missing {
-            func,
-            index,
-            label,
-        }),
-        Ok(Some(Broken::BadEntry { func })) => Err(LabelFault::BadEntry { func }),
-        Ok(Some(Broken::BadArity { func, index })) => Err(LabelFault::BadArity { func, index }),
-        Err(fault) => Err(LabelFault::NoMemory(fault)),
-    }
+    check_functions(alloc, &module.name, module.functions.as_slice())
 }
 
-// The first break in a module of that name and these functions.
-fn first_break(
-    alloc: Global,
-    owner: &Text,
-    functions: &[Function],
-) -> Result<Option<Broken>, AllocError>
-    ensures { IfOk result (λ found. option_map seen found ≡ spec.break_from owner.now (spec.arity_of (map function_parts functions.now)) 0 [] (map function_parts functions.now)) }
+// The functions of a module of that name.
+fn check_functions(alloc: Global, owner: &Text, functions: &[Function]) -> Result<(), LabelFault>
+    ensures { Tells result (spec.break_from owner.now (spec.arity_of (map function_code functions.now)) 0 [] (map function_code functions.now)) }
 {
     let entries = arities_of(alloc, functions)?;
-    break_from(alloc, owner, &entries, functions)
+    check_each(alloc, owner, &entries, functions)
 }
 
-// The first break in functions, where these are the entries that may be named.
-fn break_from(
+// Each function, where these are the entries that may be named.
+fn check_each(
     alloc: Global,
     owner: &Text,
     entries: &IndexMap<u32, u8>,
     functions: &[Function],
-) -> Result<Option<Broken>, AllocError>
-    ensures { IfOk result (λ found. option_map seen found ≡ spec.break_from owner.now (get nat_eq entries.now) 0 [] (map function_parts functions.now)) }
+) -> Result<(), LabelFault>
+    ensures { Tells result (spec.break_from owner.now (get nat_eq entries.now) 0 [] (map function_code functions.now)) }
 {
     let mut before: IndexSet<u32> = IndexSet::new(alloc);
     for (func, function) in functions.iter().enumerate() {
-        if let Some(found) = break_in(alloc, owner, entries, &mut before, func, function)? {
-            return Ok(Some(found));
+        if let Err(fault) = check_function(alloc, owner, entries, &mut before, func, function) {
+            return Err(fault);
         }
     }
-    Ok(None)
+    Ok(())
 }
 
-// The first break in a function; adds the labels that it defines.
-fn break_in(
+// A function; adds the labels that it defines.
+fn check_function(
     alloc: Global,
     owner: &Text,
     entries: &IndexMap<u32, u8>,
     before: &mut IndexSet<u32>,
     func: usize,
     function: &Function,
-) -> Result<Option<Broken>, AllocError>
-    ensures found { IfOk result (λ found. option_map seen found ≡ spec.break_in owner.now (get nat_eq entries.now) func before.old.keys (function_parts function.now)) }
-    ensures added { IfOk result (λ found. found ≡ None → before.new.keys ≡ before.old.keys ++ spec.defined_in (map parts_of function.now.code)) }
+) -> Result<(), LabelFault>
+    ensures told { Tells result (spec.break_in owner.now (get nat_eq entries.now) func before.old.keys (function_code function.now)) }
+    ensures added { IfOk result (λ _. before.new.keys ≡ before.old.keys ++ spec.defined_in (map opcode_of function.now.code)) }
 {
     if !begins_well(owner, function) {
-        return Ok(Some(Broken::BadEntry { func }));
+        return Err(LabelFault::BadEntry { func });
     }
     let code = function.code.as_slice();
     let own = defined_in(alloc, code)?;
     let scope = Scope { own: &own, entries };
-    break_in_code(&scope, before, func, code)
+    check_code(&scope, before, func, code)
 }
 
-// The first break in a function's code; adds the labels that it defines.
-fn break_in_code(
+// A function's code; adds the labels that it defines.
+fn check_code(
     scope: &Scope<'_>,
     before: &mut IndexSet<u32>,
     func: usize,
     code: &[Instr],
-) -> Result<Option<Broken>, AllocError>
-    ensures found { IfOk result (λ found. option_map seen found ≡ spec.break_in_code (seen_scope scope.now) func 0 before.old.keys (map parts_of code.now)) }
-    ensures added { IfOk result (λ found. found ≡ None → before.new.keys ≡ before.old.keys ++ spec.defined_in (map parts_of code.now)) }
+) -> Result<(), LabelFault>
+    ensures told { Tells result (spec.break_in_code (seen_scope scope.now) func 0 before.old.keys (map opcode_of code.now)) }
+    ensures added { IfOk result (λ _. before.new.keys ≡ before.old.keys ++ spec.defined_in (map opcode_of code.now)) }
 {
     for (index, instr) in code.iter().enumerate() {
-        if let Some(found) = break_at(scope, before, func, index, instr)? {
-            return Ok(Some(found));
+        if let Err(fault) = check_instr(scope, before, func, index, instr.opcode()) {
+            return Err(fault);
         }
     }
-    Ok(None)
+    Ok(())
 }
 
-// The break at an instruction; adds the label that it defines.
-fn break_at(
+// An instruction; adds the label that it defines.
+fn check_instr(
     scope: &Scope<'_>,
     before: &mut IndexSet<u32>,
     func: usize,
     index: usize,
-    instr: &Instr,
-) -> Result<Option<Broken>, AllocError>
-    ensures found { IfOk result (λ found. option_map seen found ≡ spec.break_at (seen_scope scope.now) func index before.old.keys (parts_of instr.now)) }
-    ensures added { IfOk result (λ found. found ≡ None → before.new.keys ≡ spec.with_label before.old.keys (spec.defined_by (parts_of instr.now))) }
+    opcode: Opcode<'_>,
+) -> Result<(), LabelFault>
+    ensures told { Tells result (spec.break_at (seen_scope scope.now) func index before.old.keys (opcode_seen opcode.entry)) }
+    ensures added { IfOk result (λ _. before.new.keys ≡ spec.with_label before.old.keys (spec.defined_by (opcode_seen opcode.entry))) }
 {
-    match define(before, defined_by(instr))? {
-        Some(found) => Ok(Some(found)),
-        None => Ok(misuse(scope, func, index, instr)),
+    match define(before, defined_by(opcode)) {
+        Ok(()) => check_names(scope, func, index, opcode),
+        Err(fault) => Err(fault),
     }
 }
 
-// What is wrong with what an instruction names.
-fn misuse(scope: &Scope<'_>, func: usize, index: usize, instr: &Instr) -> Option<Broken>
-    ensures { option_map seen result ≡ spec.misuse (seen_scope scope.now) func index (parts_of instr.now) }
+// What an instruction names.
+fn check_names(
+    scope: &Scope<'_>,
+    func: usize,
+    index: usize,
+    opcode: Opcode<'_>,
+) -> Result<(), LabelFault>
+    ensures { Tells result (spec.misuse (seen_scope scope.now) func index (opcode_seen opcode.entry)) }
 {
-    if let Some(label) = missing(scope, instr) {
-        return Some(Broken::Missing { func, index, label });
+    if let Some(label) = missing(scope, opcode) {
+        return Err(LabelFault::Missing { func, index, label });
     }
-    if agrees(scope, instr) {
-        return None;
+    if agrees(scope, opcode) {
+        return Ok(());
     }
-    Some(Broken::BadArity { func, index })
+    Err(LabelFault::BadArity { func, index })
 }

@@ -1,12 +1,12 @@
 -- What stands for what a source's terms stand for, while terms are added.
-use Rattle.std.proofs.Common.{◌≡◌, pos, ℕ, ◌+◌, ◌-◌, ◌<◌, ◌≤◌, List, [], ◌∷◌, ◌++◌, length, drop, take, map, slice_get, slice_index_or, Option, Some, option_map, unwrap_or, refl, sym, ap, ap₂, subst, ◌∙◌, arith}
+use Rattle.std.proofs.Common.{◌≡◌, pos, ℕ, ◌+◌, ◌-◌, ◌<◌, ◌≤◌, List, [], ◌∷◌, ◌++◌, length, drop, take, map, slice_index_or, Option, Some, option_map, refl, sym, ap, ap₂, subst, ◌∙◌, arith}
 use Rattle.std.specs.Prelude.{option_and_then}
 use Rattle.std.specs.Option.{option_zip}
 use Rattle.std.proofs.lemmas.List.{drop_more, take_more, map-append}
 use Rattle.std.proofs.lemmas.List.Elements.{All-nil, All-cons, All-append, All-head, All-tail, All-get_or}
 use Rattle.ej_term.specs.declared.asm_term.AsmTerm.{AsmTerm}
 use Rattle.ej_term.specs.declared.asm_term.AsmTerm.TheVariants as asm
-use Rattle.ej_term.specs.Term.{Term, Int, Map, Nil, Cons, Empty}
+use Rattle.ej_term.specs.Term.{Term, Int, Map, Cons, Empty}
 use Rattle.ej_term.specs.Maps.{put_each}
 use Rattle.ej_term.proofs.ValueLemmas.{value-List, value-Map}
 use Rattle.ej_term.specs.AsmValue.{value, every, ending}
@@ -14,36 +14,12 @@ use Rattle.ej_term.specs.Digits.{string}
 use Rattle.ej_term.specs.Lists.{list_onto}
 use Rattle.term_heap.specs.declared.cell.TermId.{TermId}
 use Rattle.term_heap.specs.declared.heap.Heap.{Heap}
-use Rattle.term_heap.specs.View.{terms_in, parts_in, texts_in, Holds, Stands, term_of, Keeps}
+use Rattle.term_heap.specs.View.{Holds, Stands, term_of, Keeps}
 use Rattle.term_heap.specs.Held.{HoldsEach, terms_at}
 use Rattle.term_heap.specs.Entries.{HoldsEntry, HoldsEntries, entry_of, entries_at}
 use Rattle.term_heap.specs.Loaded.{IsLoaded, AreLoaded, value_pair, ArePairsLoaded}
 use Rattle.ej_term.proofs.Options.{unsome, first-every}
-use Rattle.term_heap.proofs.Made.{extends-get}
-use Rattle.term_heap.proofs.Adding.{known, is-known, extends-then}
-use Rattle.term_heap.proofs.Kept.{held}
-
--- what stands for a term is held
-pub stands-held : (heap : Heap) (id : TermId) (t : Term) → Stands heap id t → Holds heap id
-stands-held heap id t e = is-known (slice_get (terms_in heap) id.0) t e
-
-pub stands-term : (heap : Heap) (id : TermId) (t : Term) → Stands heap id t → term_of heap id ≡ t
-stands-term heap id t e = ap (λ o. unwrap_or o Nil) e
-
--- an earlier id keeps its term
-pub kept-term : (old new : Heap) (id : TermId) → Keeps old new → Holds old id → term_of new id ≡ term_of old id
-kept-term old new id keeps is =
-    ap (λ o. unwrap_or o Nil) (extends-get (terms_in old) (terms_in new) id.0 (term_of old id) keeps.terms (known (slice_get (terms_in old) id.0) Nil is))
-
-pub kept-each : (old new : Heap) (ids : List TermId) → Keeps old new → HoldsEach old ids → HoldsEach new ids
-kept-each old new [] keeps all = All-nil (Holds new)
-kept-each old new (id ∷ ids) keeps all =
-    All-cons (Holds new) id ids (held old new id keeps (All-head (Holds old) id ids all)) (kept-each old new ids keeps (All-tail (Holds old) id ids all))
-
-pub kept-terms : (old new : Heap) (ids : List TermId) → Keeps old new → HoldsEach old ids → terms_at new ids ≡ terms_at old ids
-kept-terms old new [] keeps all = refl
-kept-terms old new (id ∷ ids) keeps all =
-    ap₂ ◌∷◌ (kept-term old new id keeps (All-head (Holds old) id ids all)) (kept-terms old new ids keeps (All-tail (Holds old) id ids all))
+use Rattle.term_heap.proofs.Kept.{held, stands-held, stands-term, kept-term, kept-each, kept-terms, keeps-then}
 
 pub kept-pairs : (old new : Heap) (ids : List (TermId × TermId)) → Keeps old new → HoldsEntries old ids → HoldsEntries new ids
 kept-pairs old new [] keeps all = All-nil (HoldsEntry new)
@@ -58,13 +34,6 @@ kept-entries old new (e ∷ es) keeps all =
     ap₂ (λ (x : Term × Term) (xs : List (Term × Term)). x ∷ xs)
     (ap₂ (λ (k v : Term). (k, v)) (kept-term old new e.0 keeps first.0) (kept-term old new e.1 keeps first.1))
     (kept-entries old new es keeps (All-tail (HoldsEntry old) e es all))
-
-pub keeps-then : (old new last : Heap) → Keeps old new → Keeps new last → Keeps old last
-keeps-then old new last first more = record {
-  terms = extends-then (terms_in old) (terms_in new) (terms_in last) first.terms more.terms;
-  parts = extends-then (parts_in old) (parts_in new) (parts_in last) first.parts more.parts;
-  texts = extends-then (texts_in old) (texts_in new) (texts_in last) first.texts more.texts;
-}
 
 -- one more in front of a list
 pub list-step : (first old new : Heap) (parts : List TermId) (part : TermId) (at : ℕ) (tail : Term) (list id d : TermId) → 0 < at → at ≤ length parts

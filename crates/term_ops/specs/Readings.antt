@@ -11,11 +11,6 @@ abbrev pub name_of : Term → Option (List ℕ)
 name_of (Atom name) = Some name
 name_of _ = std.None
 
--- the integer from 0 that a term is
-abbrev pub natural_of : Term → Option ℕ
-natural_of (Int (pos n)) = Some n
-natural_of _ = std.None
-
 -- the integer, error system_limit of one that does not fit, and error badarg of none
 abbrev pub outcome_of : Reading → Outcome
 outcome_of (r.Integer n) = Value (Int n)

@@ -7,12 +7,12 @@ ghost use Rattle.ej_term.specs.Digits as spec;
 ghost use Rattle.ej_term.specs.Outcome as outcome;
 ghost use Rattle.term_heap.specs.View.{Holds, Stands, term_of, Keeps};
 ghost use Rattle.term_ops.specs.Answers.{Gives};
-ghost use Rattle.term_ops.specs.Readings.{name_of, natural_of, outcome_of, digits_of};
+ghost use Rattle.term_ops.specs.Readings.{name_of, outcome_of, digits_of};
 
 use crate::answer::PureAnswer;
 use crate::elements::{front, is_nil};
 use crate::raise::{badarg, system_limit};
-use crate::read::integer;
+use crate::read::{integer, natural};
 use std::alloc::{AllocError, Global};
 use term_heap::{Cell, Heap, TermId};
 
@@ -143,17 +143,6 @@ fn numbers(alloc: Global, heap: &Heap, list: TermId) -> Result<Option<Vec<u64>>,
         Ok(Some(numbers))
     } else {
         Ok(None)
-    }
-}
-
-/// The integer from 0 that a term is; None of anything else.
-fn natural(heap: &Heap, id: TermId) -> Option<u64>
-    requires { Holds heap.now id }
-    ensures { result ≡ natural_of (term_of heap.now id) }
-{
-    match integer(heap, id) {
-        Some(n) if n >= 0 => Some(n as u64),
-        _ => None,
     }
 }
 

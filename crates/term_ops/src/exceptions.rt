@@ -64,7 +64,7 @@ fn class_of_name(name: &str) -> Option<Class3>
 }
 
 /// The atom `badarg`, as a value.
-#[tactic(auto, using(crate::proofs::Words::words))]
+#[tactic(auto, using(crate::proofs::ReadWords::words))]
 fn badarg_value(heap: &mut Heap) -> Result<PureAnswer, AllocError>
     ensures keeps { Keeps heap.old heap.new }
     ensures answer { IfOk result (λ a. Gives heap.new a (Value (term.atom (codes "badarg")))) }

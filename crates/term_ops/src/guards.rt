@@ -1,8 +1,8 @@
-//! The tests of terms, by number.
+//! The tests of terms.
 
 ghost use Rattle.std.specs.Prelude.{◌≡◌, [], ◌∷◌, length, true, IfOk};
 ghost use Rattle.ej_term.specs.Tests as tests;
-ghost use Rattle.ej_term.specs.Tests.{is_test};
+ghost use Rattle.ej_term.specs.Tests.{is_test, is_of, rule, holds_by};
 ghost use Rattle.term_heap.specs.View.{Holds, term_of};
 ghost use Rattle.term_heap.specs.Held.{HoldsEach, terms_at};
 
@@ -12,6 +12,7 @@ use crate::kinds::{
 };
 use crate::order::{equal, less};
 use crate::sized::{has_arity, is_tagged_tuple, takes};
+use ej_term::Test;
 use std::alloc::{AllocError, Global};
 use term_heap::{Heap, TermId};
 
@@ -22,72 +23,55 @@ pub fn test(alloc: Global, heap: &Heap, number: u16, args: &[TermId]) -> Result<
     requires number { is_test number (length args.now) ≡ true }
     ensures { IfOk result (λ holds. holds ≡ tests.test number (terms_at heap.now args.now)) }
 {
+    let Some(test) = Test::numbered(number) else {
+        unreachable!();
+    };
     match args {
-        [a] => Ok(of_one(heap, number, *a)),
-        [a, b] => of_two(alloc, heap, number, *a, *b),
-        [a, b, c] => of_three(alloc, heap, number, *a, *b, *c),
+        [a] => Ok(of_one(heap, test, *a)),
+        [a, b] => of_two(alloc, heap, test, *a, *b),
+        [a, b, c] => is_tagged_tuple(alloc, heap, *a, *b, *c),
         _ => unreachable!(),
     }
 }
 
-/// The tests of one term. The last four are of kinds that no term has: floats, binaries, bit strings and ports.
-fn of_one(heap: &Heap, number: u16, a: TermId) -> bool
+/// The tests of one term.
+pub(crate) fn of_one(heap: &Heap, test: Test, a: TermId) -> bool
     requires held { Holds heap.now a }
-    requires number { is_test number 1 ≡ true }
-    ensures { result ≡ tests.test number (term_of heap.now a ∷ []) }
+    requires count { is_of (rule test) 1 ≡ true }
+    ensures { result ≡ holds_by (rule test) (term_of heap.now a ∷ []) }
 {
-    match number {
-        7 => is_integer(heap, a),
-        8 => is_integer(heap, a),
-        9 => is_atom(heap, a),
-        10 => is_pid(heap, a),
-        11 => is_reference(heap, a),
-        12 => is_nil(heap, a),
-        13 => is_list(heap, a),
-        14 => is_nonempty_list(heap, a),
-        15 => is_tuple(heap, a),
-        17 => is_boolean(heap, a),
-        18 => is_function(heap, a),
-        20 => is_map(heap, a),
-        _ => false,
+    match test {
+        Test::IsInteger | Test::IsNumber => is_integer(heap, a),
+        Test::IsAtom => is_atom(heap, a),
+        Test::IsPid => is_pid(heap, a),
+        Test::IsReference => is_reference(heap, a),
+        Test::IsNil => is_nil(heap, a),
+        Test::IsList => is_list(heap, a),
+        Test::IsNonemptyList => is_nonempty_list(heap, a),
+        Test::IsTuple => is_tuple(heap, a),
+        Test::IsBoolean => is_boolean(heap, a),
+        Test::IsFunction => is_function(heap, a),
+        Test::IsMap => is_map(heap, a),
+        // of floats, binaries, bit strings and ports there are none
+        Test::IsFloat | Test::IsBinary | Test::IsBitstring | Test::IsPort => false,
+        _ => unreachable!(),
     }
 }
 
 /// The tests of two terms.
-fn of_two(alloc: Global, heap: &Heap, number: u16, a: TermId, b: TermId) -> Result<bool, AllocError>
+fn of_two(alloc: Global, heap: &Heap, test: Test, a: TermId, b: TermId) -> Result<bool, AllocError>
     requires first { Holds heap.now a }
     requires second { Holds heap.now b }
-    requires number { is_test number 2 ≡ true }
-    ensures { IfOk result (λ holds. holds ≡ tests.test number (term_of heap.now a ∷ term_of heap.now b ∷ [])) }
+    requires count { is_of (rule test) 2 ≡ true }
+    ensures { IfOk result (λ holds. holds ≡ holds_by (rule test) (term_of heap.now a ∷ term_of heap.now b ∷ [])) }
 {
-    match number {
-        1 => less(alloc, heap, a, b),
-        2 => Ok(!less(alloc, heap, a, b)?),
-        3 | 5 => equal(alloc, heap, a, b),
-        4 | 6 => Ok(!equal(alloc, heap, a, b)?),
-        16 => Ok(has_arity(heap, a, b)),
-        19 => Ok(takes(heap, a, b)),
-        _ => unreachable!(),
-    }
-}
-
-/// The test of three terms.
-fn of_three(
-    alloc: Global,
-    heap: &Heap,
-    number: u16,
-    a: TermId,
-    b: TermId,
-    c: TermId,
-) -> Result<bool, AllocError>
-    requires first { Holds heap.now a }
-    requires second { Holds heap.now b }
-    requires third { Holds heap.now c }
-    requires number { is_test number 3 ≡ true }
-    ensures { IfOk result (λ holds. holds ≡ tests.test number (term_of heap.now a ∷ term_of heap.now b ∷ term_of heap.now c ∷ [])) }
-{
-    match number {
-        21 => is_tagged_tuple(alloc, heap, a, b, c),
+    match test {
+        Test::Less => less(alloc, heap, a, b),
+        Test::AtLeast => Ok(!less(alloc, heap, a, b)?),
+        Test::Equal | Test::ExactlyEqual => equal(alloc, heap, a, b),
+        Test::NotEqual | Test::NotExactlyEqual => Ok(!equal(alloc, heap, a, b)?),
+        Test::TestArity => Ok(has_arity(heap, a, b)),
+        Test::IsFunctionOfArity => Ok(takes(heap, a, b)),
         _ => unreachable!(),
     }
 }

@@ -19,8 +19,6 @@ mod exceptions;
 mod guards;
 mod integers;
 mod kinds;
-#[cfg(test)]
-mod list_cases;
 mod lists;
 mod map_parts;
 mod map_update;
@@ -29,6 +27,8 @@ mod order;
 mod raise;
 mod read;
 mod sized;
+#[cfg(test)]
+mod tests;
 mod tuples;
 
 pub use answer::{PureAnswer, Raised};

@@ -16,7 +16,7 @@ use std::alloc::{AllocError, Global};
 use term_heap::{Heap, TermId};
 
 /// The error `{badmap,T}` of a term that is no map.
-#[tactic(auto, using(crate::proofs::MapWords::map_words))]
+#[tactic(auto, using(crate::proofs::MapsWords::map_words))]
 pub(crate) fn badmap(heap: &mut Heap, term: TermId) -> Result<PureAnswer, AllocError>
     requires { Holds heap.old term }
     ensures keeps { Keeps heap.old heap.new }
@@ -26,7 +26,7 @@ pub(crate) fn badmap(heap: &mut Heap, term: TermId) -> Result<PureAnswer, AllocE
 }
 
 /// The error `{badkey,K}` of a key that a map does not have.
-#[tactic(auto, using(crate::proofs::MapWords::map_words))]
+#[tactic(auto, using(crate::proofs::MapsWords::map_words))]
 pub(crate) fn badkey(heap: &mut Heap, key: TermId) -> Result<PureAnswer, AllocError>
     requires { Holds heap.old key }
     ensures keeps { Keeps heap.old heap.new }
@@ -36,7 +36,7 @@ pub(crate) fn badkey(heap: &mut Heap, key: TermId) -> Result<PureAnswer, AllocEr
 }
 
 /// `map_size/1`: the count of a map's keys.
-#[tactic(auto, using(crate::proofs::Lookups::size_of_parts))]
+#[tactic(auto, using(crate::proofs::MapsLookup::size_of_parts))]
 pub(crate) fn map_size(heap: &mut Heap, map: TermId) -> Result<PureAnswer, AllocError>
     requires { Holds heap.old map }
     ensures keeps { Keeps heap.old heap.new }
@@ -52,7 +52,7 @@ pub(crate) fn map_size(heap: &mut Heap, map: TermId) -> Result<PureAnswer, Alloc
 }
 
 /// `map_get/2` and `maps:get/2`: the value at a key.
-#[tactic(auto, using(crate::proofs::Lookups::map_get_is))]
+#[tactic(auto, using(crate::proofs::MapsLookup::map_get_is))]
 pub(crate) fn map_get(
     alloc: Global,
     heap: &mut Heap,
@@ -72,7 +72,7 @@ pub(crate) fn map_get(
 }
 
 /// `is_map_key/2` and `maps:is_key/2`: whether a map has a key.
-#[tactic(auto, using(crate::proofs::Lookups::is_map_key_is))]
+#[tactic(auto, using(crate::proofs::MapsLookup::is_map_key_is))]
 pub(crate) fn is_map_key(
     alloc: Global,
     heap: &mut Heap,
@@ -92,7 +92,7 @@ pub(crate) fn is_map_key(
 }
 
 /// `maps:find/2`: `{ok,V}` with the value at a key, or `error`.
-#[tactic(auto, using(crate::proofs::Lookups::maps_find_is))]
+#[tactic(auto, using(crate::proofs::MapsLookup::maps_find_is))]
 pub(crate) fn find(
     alloc: Global,
     heap: &mut Heap,
@@ -112,7 +112,7 @@ pub(crate) fn find(
 }
 
 /// `{ok,V}`.
-#[tactic(auto, using(crate::proofs::MapWords::map_words))]
+#[tactic(auto, using(crate::proofs::MapsWords::map_words))]
 fn found(heap: &mut Heap, value: TermId) -> Result<TermId, AllocError>
     requires { Holds heap.old value }
     ensures keeps { Keeps heap.old heap.new }
@@ -123,7 +123,7 @@ fn found(heap: &mut Heap, value: TermId) -> Result<TermId, AllocError>
 }
 
 /// `error`.
-#[tactic(auto, using(crate::proofs::MapWords::map_words))]
+#[tactic(auto, using(crate::proofs::MapsWords::map_words))]
 fn not_found(heap: &mut Heap) -> Result<TermId, AllocError>
     ensures keeps { Keeps heap.old heap.new }
     ensures term { IfOk result (λ id. Stands heap.new id (spec.found None)) }

@@ -30,7 +30,7 @@ pub(crate) fn boolean(heap: &mut Heap, truth: bool) -> Result<PureAnswer, AllocE
 }
 
 /// The atom that a boolean is.
-#[tactic(auto, using(crate::proofs::Words::words))]
+#[tactic(auto, using(crate::proofs::ReadWords::words))]
 fn boolean_atom(heap: &mut Heap, truth: bool) -> Result<TermId, AllocError>
     ensures keeps { Keeps heap.old heap.new }
     ensures term { IfOk result (λ id. Stands heap.new id (outcome.boolean truth)) }
@@ -63,7 +63,7 @@ pub(crate) fn named_error(heap: &mut Heap, name: &str) -> Result<PureAnswer, All
 }
 
 /// The error `badarg`.
-#[tactic(auto, using(crate::proofs::Words::words))]
+#[tactic(auto, using(crate::proofs::ReadWords::words))]
 pub(crate) fn badarg(heap: &mut Heap) -> Result<PureAnswer, AllocError>
     ensures keeps { Keeps heap.old heap.new }
     ensures answer { IfOk result (λ a. Gives heap.new a outcome.badarg) }
@@ -72,7 +72,7 @@ pub(crate) fn badarg(heap: &mut Heap) -> Result<PureAnswer, AllocError>
 }
 
 /// The error `badarith`.
-#[tactic(auto, using(crate::proofs::Words::words))]
+#[tactic(auto, using(crate::proofs::ReadWords::words))]
 pub(crate) fn badarith(heap: &mut Heap) -> Result<PureAnswer, AllocError>
     ensures keeps { Keeps heap.old heap.new }
     ensures answer { IfOk result (λ a. Gives heap.new a outcome.badarith) }
@@ -81,7 +81,7 @@ pub(crate) fn badarith(heap: &mut Heap) -> Result<PureAnswer, AllocError>
 }
 
 /// The error `system_limit`.
-#[tactic(auto, using(crate::proofs::Words::words))]
+#[tactic(auto, using(crate::proofs::ReadWords::words))]
 pub(crate) fn system_limit(heap: &mut Heap) -> Result<PureAnswer, AllocError>
     ensures keeps { Keeps heap.old heap.new }
     ensures answer { IfOk result (λ a. Gives heap.new a outcome.system_limit) }

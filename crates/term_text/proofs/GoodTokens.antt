@@ -15,9 +15,11 @@ use Rattle.asm_terms.specs.Names.{begins_name, is_name_character, name, word, at
 use Rattle.asm_terms.specs.Quotes.{is_scalar, control, octal, braced, second_digit, hexadecimal, escaped, quoted_from, quoted, behind_character, quoted_character}
 use Rattle.asm_terms.specs.Binaries.{binary_from, binary, ends_binary, place_behind}
 use Rattle.asm_terms.specs.Identifiers.{bounded, number_up_to, with_word, node, last_number, with_number, pid_or_reference, map_or_identifier, behind_hash}
-use Rattle.asm_terms.specs.Tokens.{negative, atom_of, quoted_atom, string_of, string, binary_behind, mark, token_at, joined_string, joined as joined_tokens, with_token, skip_blank, is_full_stop, behind_token, tokens_from, form_tokens}
+use Rattle.asm_terms.specs.Tokens.{negative, atom_of, quoted_atom, string_of, string, binary_behind, mark, token_at, joined_string, joined as joined_tokens, with_token, skip_blank, is_full_stop, behind_token, tokens_from}
 use Rattle.asm_terms.specs.Blanks.{skip, is_blank}
+use Rattle.asm_terms.specs.Splitting.{HasTokens}
 use Rattle.asm_terms.proofs.Shorter.{either}
+use Rattle.asm_terms.proofs.SplitLaw.{walked}
 use Rattle.term_text.specs.Readable.{is_short}
 
 -- a text of Unicode scalar values
@@ -325,8 +327,8 @@ tokens-good (suc n) done (c ∷ cs) d s = either (Leaves AllGood) (is_full_stop 
     (behind_token-good (tokens_from n) done (token_at (c ∷ cs)) d (token-good (c ∷ cs) s) (λ now rest e t. tokens-good n now rest e t))
 
 -- the tokens of a form of scalar values are in range, and a text of scalar values is left
-pub form-left : (text : List ℕ) (ts : List Token) (rest : List ℕ) → AreScalars text → form_tokens text ≡ Some (ts, rest) → AllGood ts × AreScalars rest
-form-left text ts rest s e = subst (Leaves AllGood) e (tokens-good (length (skip_blank text)) [] (skip_blank text) tt (skip-scalars false text s))
+pub form-left : (text : List ℕ) (ts : List Token) (rest : List ℕ) → AreScalars text → HasTokens text ts rest → AllGood ts × AreScalars rest
+form-left text ts rest s h = subst (Leaves AllGood) (walked h) (tokens-good (length (skip_blank text)) [] (skip_blank text) tt (skip-scalars false text s))
 
-pub form-good : (text : List ℕ) (ts : List Token) (rest : List ℕ) → AreScalars text → form_tokens text ≡ Some (ts, rest) → AllGood ts
-form-good text ts rest s e = (form-left text ts rest s e).0
+pub form-good : (text : List ℕ) (ts : List Token) (rest : List ℕ) → AreScalars text → HasTokens text ts rest → AllGood ts
+form-good text ts rest s h = (form-left text ts rest s h).0

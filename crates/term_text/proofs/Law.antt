@@ -1,5 +1,5 @@
 -- A readable term's print is read back as that term.
-use Rattle.std.proofs.Common.{◌≡◌, ◌≢◌, ℕ, true, not, List, [], ◌∷◌, ◌++◌, codes, Some, refl, sym, ap, ◌∙◌, subst}
+use Rattle.std.proofs.Common.{◌≡◌, ℕ, true, not, List, [], ◌∷◌, ◌++◌, codes, Some, refl, sym, ap, ◌∙◌, subst}
 use Rattle.std.proofs.lemmas.Bool.{and_parts, and_from, not-false}
 use Rattle.ej_term.specs.declared.asm_term.AsmTerm.{AsmTerm}
 use Rattle.ej_term.specs.Term.{Term}
@@ -8,8 +8,9 @@ use Rattle.ej_term.specs.AsmValue.{value}
 use Rattle.ej_term.proofs.Options.{unsome}
 use Rattle.asm_terms.specs.Forms.{IsForm, AreFormsOf, AreForms}
 use Rattle.asm_terms.specs.Grammar.{too_deep}
-use Rattle.asm_terms.specs.Tokens.{skip_blank, form_tokens}
-use Rattle.asm_terms.proofs.FormsLaw.{one_reading, same_spelling}
+use Rattle.asm_terms.specs.Splitting.{HasMore, at_end, blank}
+use Rattle.asm_terms.proofs.FormsLaw.{one_reading}
+use Rattle.asm_terms.proofs.SplitLaw.{skipped, has_tokens, one_split}
 use Rattle.term_text.specs.WellFormed.{everywhere, is_well_formed}
 use Rattle.term_text.specs.Readable.{is_sayable, is_shallow, is_readable}
 use Rattle.term_text.specs.Laws.{IsRead, PrintsAreRead}
@@ -27,20 +28,20 @@ not-empty : (xs ys : List ℕ) (y : ℕ) → xs ++ y ∷ ys ≡ [] → ⊥
 not-empty [] ys y e = cc
 not-empty (x ∷ xs) ys y e = cc
 
-not-blank : (t : Term) → Sound t → skip_blank (print t ++ codes ".\n") ≢ []
-not-blank t s e = not-empty (print t) (10 ∷ []) 46 (sym (print-solid t s) ∙ e)
+not-blank : (t : Term) → Sound t → HasMore (print t ++ codes ".\n")
+not-blank t s e = not-empty (print t) (10 ∷ []) 46 (sym (print-solid t s) ∙ skipped e)
 
 print-form : (t : Term) → Sound t → is_shallow 0 t ≡ true → IsForm (print t ++ codes ".\n") (as_source t) (codes "\n")
 print-form t s shallow = record {
   tokens = tokens t [];
-  spelled = print-tokens t s;
+  spelled = has_tokens (print t ++ codes ".\n") (tokens t []) (codes "\n") (print-tokens t s);
   shallow = print-depth t s ∙ ap not shallow;
   is_term = spells t s [];
 }
 
 -- a print and a full stop are one form
 pub sound-forms : (t : Term) → Sound t → is_shallow 0 t ≡ true → AreForms (print t ++ codes ".\n") (as_source t ∷ [])
-sound-forms t s shallow = subst (λ text. AreFormsOf text (as_source t ∷ [])) (sym (print-characters t)) (not-blank t s, codes "\n", print-form t s shallow, refl)
+sound-forms t s shallow = subst (λ text. AreFormsOf text (as_source t ∷ [])) (sym (print-characters t)) (not-blank t s, codes "\n", print-form t s shallow, blank 10 [] [] refl at_end)
 
 read : (t : Term) → is_well_formed t ≡ true → is_readable t ≡ true → IsRead (print t) t
 read t well_formed readable =
@@ -62,7 +63,8 @@ one-term bytes term other r o =
 -- the tokens of a print are not too deep
 shallow-form : (t : Term) (form : AsmTerm) (rest : List ℕ) → Sound t → IsForm (print t ++ codes ".\n") form rest → is_shallow 0 t ≡ true
 shallow-form t form rest s is =
-    let same = same_spelling (form_tokens (print t ++ codes ".\n")) is.tokens (tokens t []) rest (codes "\n") is.spelled (print-tokens t s) in
+    let spelled = has_tokens (print t ++ codes ".\n") (tokens t []) (codes "\n") (print-tokens t s) in
+    let same = one_split (print t ++ codes ".\n") is.tokens (tokens t []) rest (codes "\n") is.spelled spelled in
     not-false (is_shallow 0 t) (sym (print-depth t s) ∙ ap too_deep (sym same.0) ∙ is.shallow)
 
 no-other-form : (t : Term) (form : AsmTerm) (rest : List ℕ) → IsForm (print t ++ codes ".\n") form rest → value form ≡ Some t → (is_well_formed t ≡ true) × (is_readable t ≡ true)

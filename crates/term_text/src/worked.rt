@@ -13,16 +13,3 @@ pub fn worked_terms()
     ensures large_number { LargeNumber }
     ensures local_fun { LocalFun }
 {}
-
-#[cfg(test)]
-mod tests {
-    use super::*;
-    use std::test::Fail;
-
-    #[test]
-    fn there_is_nothing_to_do(_rt: HostRuntime) -> Result<(), Fail> {
-        worked_terms();
-        crate::prints_are_read();
-        Ok(())
-    }
-}

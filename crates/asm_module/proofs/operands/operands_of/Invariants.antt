@@ -3,5 +3,5 @@ use Rattle.asm_module.specs.Operands as spec
 use Rattle.asm_module.proofs.ReadingLemmas.{onto}
 use Rattle.asm_module.proofs.operands.operands_of.Given as goal
 
-abbrev pub invariant-loop-part : goal.invariant-loop-part
-invariant-loop-part l = onto l.operands (spec.operands_of l.row l.number (drop l.part-index l.parts) l.rest) ≡ spec.operands_of l.row l.number l.parts l.terms
+abbrev pub invariant-loop-place : goal.invariant-loop-place
+invariant-loop-place l = onto l.operands (spec.operands_of l.number (drop l.place-index l.places) l.rest) ≡ spec.operands_of l.number l.places l.terms

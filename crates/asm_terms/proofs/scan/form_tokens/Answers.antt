@@ -1,19 +1,22 @@
 use Rattle.std.proofs.Common.{◌∙◌, ap, sym}
 use Rattle.asm_terms.specs.Tokens.{token_at, tokens_behind}
+use Rattle.asm_terms.proofs.SplitLaw.{has_tokens, has_none}
 use Rattle.asm_terms.proofs.TokenLemmas.{tokens-stop, tokens-none, tokens-step, tokens-less, tokens-end, answered}
 use Rattle.asm_terms.proofs.scan.form_tokens.Goals as goal
 
 pub returns-then-take_full_stop : goal.returns-then-take_full_stop
 returns-then-take_full_stop c =
     let stop = c.if-take_full_stop.ensures in
-    answered c.args.reader.now c.skip_blank.new.reader c.tokens.reader c.new-tokens.result c.tokens.tokens c.skip_blank.ensures c.new-tokens.ensures c.tokens.invariant
-    (tokens-stop c.tokens.tokens c.tokens.reader c.take_full_stop.new.reader stop.0 stop.1)
+    has_tokens c.args.reader.now c.tokens.tokens c.take_full_stop.new.reader
+    (answered c.args.reader.now c.skip_blank.new.reader c.tokens.reader c.new-tokens.result c.tokens.tokens c.skip_blank.ensures c.new-tokens.ensures c.tokens.invariant
+    (tokens-stop c.tokens.tokens c.tokens.reader c.take_full_stop.new.reader stop.0 stop.1))
 
 pub returns-in-None : goal.returns-in-None
 returns-in-None c =
     let stop = c.if-take_full_stop.ensures in
-    answered c.args.reader.now c.skip_blank.new.reader c.tokens.reader c.new-tokens.result c.tokens.tokens c.skip_blank.ensures c.new-tokens.ensures c.tokens.invariant
-    (tokens-none c.tokens.tokens c.tokens.reader c.token_at.new.reader c.in_ok-token.field-0 stop.0 (ap token_at (sym stop.1) ∙ c.in_ok-token.ensures) c.in-None.is)
+    has_none c.args.reader.now
+    (answered c.args.reader.now c.skip_blank.new.reader c.tokens.reader c.new-tokens.result c.tokens.tokens c.skip_blank.ensures c.new-tokens.ensures c.tokens.invariant
+    (tokens-none c.tokens.tokens c.tokens.reader c.token_at.new.reader c.in_ok-token.field-0 stop.0 (ap token_at (sym stop.1) ∙ c.in_ok-token.ensures) c.in-None.is))
 
 pub tokens-smaller : goal.tokens-smaller
 tokens-smaller c =
@@ -31,5 +34,6 @@ tokens-preserved c =
 pub returns : goal.returns
 returns c =
     let ended = c.tokens-test.ensures in
-    answered c.args.reader.now c.skip_blank.new.reader c.tokens.reader c.new-tokens.result c.tokens.tokens c.skip_blank.ensures c.new-tokens.ensures c.tokens.invariant
-    (ap (tokens_behind c.tokens.tokens) ended ∙ tokens-end c.tokens.tokens)
+    has_none c.args.reader.now
+    (answered c.args.reader.now c.skip_blank.new.reader c.tokens.reader c.new-tokens.result c.tokens.tokens c.skip_blank.ensures c.new-tokens.ensures c.tokens.invariant
+    (ap (tokens_behind c.tokens.tokens) ended ∙ tokens-end c.tokens.tokens))

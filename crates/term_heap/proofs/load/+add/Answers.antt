@@ -3,7 +3,8 @@ use Rattle.std.specs.List.{All}
 use Rattle.ej_term.specs.declared.asm_term.AsmTerm.{AsmTerm}
 use Rattle.ej_term.specs.declared.asm_term.AsmTerm.TheVariants as asm
 use Rattle.term_heap.specs.View.{Holds}
-use Rattle.term_heap.proofs.Loading.{loaded, value-list, value-map, kept-each, keeps-then, loaded-step, pair-step}
+use Rattle.term_heap.proofs.Loading.{loaded, value-list, value-map, loaded-step, pair-step}
+use Rattle.term_heap.proofs.Kept.{kept-each, keeps-then}
 use Rattle.term_heap.proofs.load.+add.Goals as goal
 
 pub add-returns-in_ok-map-in-Map-clause-loaded : goal.add-returns-in_ok-map-in-Map-clause-loaded

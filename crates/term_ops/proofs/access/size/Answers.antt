@@ -4,7 +4,7 @@ use Rattle.ej_term.specs.Term.{Int}
 use Rattle.ej_term.specs.Outcome.{Value, number}
 use Rattle.term_heap.specs.View.{term_of}
 use Rattle.term_heap.specs.Held.{terms_at}
-use Rattle.term_ops.proofs.Sizes.{size_is}
+use Rattle.term_ops.proofs.SizeLemmas.{size_is}
 use Rattle.term_ops.proofs.access.size.Goals as goal
 
 pub returns : goal.returns

@@ -1,7 +1,7 @@
 use Rattle.std.proofs.Common.{◌∙◌}
 use Rattle.std.specs.Int.{w128}
 use Rattle.std.proofs.lemmas.Int.{to_z-of_z}
-use Rattle.term_ops.proofs.Fitting.{product-is, product-fits}
+use Rattle.term_ops.proofs.ArithmeticFits.{product-is, product-fits}
 use Rattle.term_ops.proofs.arithmetic.product.Goals as goal
 
 pub overflow_mul-result : goal.overflow_mul-result

@@ -1,7 +1,7 @@
 use Rattle.term_heap.specs.View.{term_of}
 use Rattle.std.proofs.Common.{◌≡◌, ◌+◌, get_or, refl, rules}
 use Rattle.std.specs.List.{slice_set}
-use Rattle.term_ops.proofs.BagSteps.{add-here, must-be-here}
+use Rattle.term_ops.proofs.BagLemmas.{add-here, must-be-here}
 use Rattle.term_ops.proofs.bag.add.Goals as goal
 
 pub unreachable-requires : goal.unreachable-requires

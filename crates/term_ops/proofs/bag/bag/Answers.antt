@@ -1,7 +1,7 @@
 use Rattle.std.proofs.Common.{List, ap, ◌∙◌}
 use Rattle.term_heap.specs.Held.{terms_at}
 use Rattle.term_heap.specs.declared.cell.TermId.{TermId}
-use Rattle.term_ops.proofs.BagSteps.{bag-ascends, bag-among}
+use Rattle.term_ops.proofs.BagLemmas.{bag-ascends, bag-among}
 use Rattle.term_ops.proofs.bag.bag.Goals as goal
 
 pub counts-requires-clause-rise : goal.counts-requires-clause-rise

@@ -1,7 +1,7 @@
 use Rattle.std.proofs.Common.{◌≡◌, length, replicate, ◌∙◌, sym, rules}
 use Rattle.term_heap.specs.Held.{terms_at}
 use Rattle.term_ops.specs.Bags.{held, how_many}
-use Rattle.term_ops.proofs.BagSteps.{none-counted, counts-on}
+use Rattle.term_ops.proofs.BagLemmas.{none-counted, counts-on}
 use Rattle.term_ops.proofs.bag.counts.Goals as goal
 
 pub loop-id-init : goal.loop-id-init

@@ -1,7 +1,7 @@
 use Rattle.std.proofs.Common.{◌≡◌, ◌-◌, ◌<◌, get_or, refl, rules, arith}
 use Rattle.std.specs.List.{slice_set}
 use Rattle.term_heap.specs.View.{term_of}
-use Rattle.term_ops.proofs.BagSteps.{none-left, none-here, one-taken}
+use Rattle.term_ops.proofs.BagLemmas.{none-left, none-here, one-taken}
 use Rattle.term_ops.proofs.bag.take.Goals as goal
 
 pub returns-then-index-eq0-clause-taken : goal.returns-then-index-eq0-clause-taken

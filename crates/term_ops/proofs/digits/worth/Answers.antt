@@ -2,7 +2,7 @@ use Rattle.std.proofs.Common.{◌≡◌, ◌+◌, ◌-◌, ◌*◌, ◌^◌, ◌
 use Rattle.std.specs.List.{list_all}
 use Rattle.ej_term.specs.Atoms.{is_between}
 use Rattle.ej_term.specs.Digits as spec
-use Rattle.term_ops.proofs.Characters.{worth-next, behind-all}
+use Rattle.term_ops.proofs.DigitsCharacters.{worth-next, behind-all}
 use Rattle.term_ops.proofs.digits.worth.Goals as goal
 
 pub loop-digit-preserved : goal.loop-digit-preserved

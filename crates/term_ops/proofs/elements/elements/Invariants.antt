@@ -3,7 +3,7 @@ use Rattle.ej_term.specs.Lists as lists
 use Rattle.term_heap.specs.View.{Holds, term_of}
 use Rattle.term_heap.specs.Held.{HoldsEach, terms_at}
 use Rattle.term_heap.specs.Works.{weight}
-use Rattle.term_ops.proofs.Listing.{before}
+use Rattle.term_ops.proofs.ElementsLists.{before}
 use Rattle.term_ops.proofs.elements.elements.Given as goal
 
 abbrev pub invariant-loop-head : goal.invariant-loop-head

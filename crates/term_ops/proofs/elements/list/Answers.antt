@@ -1,4 +1,4 @@
-use Rattle.term_ops.proofs.Listing.{list-made}
+use Rattle.term_ops.proofs.ElementsLists.{list-made}
 use Rattle.term_ops.proofs.elements.list.Goals as goal
 
 pub returns-clause-list : goal.returns-clause-list

@@ -1,6 +1,6 @@
 use Rattle.std.proofs.Common.{ap, sym, ◌∙◌}
 use Rattle.term_ops.specs.Parts.{class_of_name}
-use Rattle.term_ops.proofs.ClassNames.{class_of_characters, no_class}
+use Rattle.term_ops.proofs.ExceptionClasses.{class_of_characters, no_class}
 use Rattle.term_ops.proofs.exceptions.class_of_name.Goals as goal
 
 pub returns-in-error : goal.returns-in-error

@@ -2,7 +2,7 @@ use Rattle.std.proofs.Common.{◌≡◌, Some, ◌∙◌, rules}
 use Rattle.ej_term.specs.Lists as spec
 use Rattle.term_heap.specs.View.{term_of}
 use Rattle.term_heap.specs.Held.{terms_at}
-use Rattle.term_ops.proofs.Turning.{gives-turned}
+use Rattle.term_ops.proofs.ListsReverse.{gives-turned}
 use Rattle.term_ops.proofs.lists.reverse.Goals as goal
 
 pub returns-in_ok-list_onto-in-Some-clause-answer : goal.returns-in_ok-list_onto-in-Some-clause-answer

@@ -1,6 +1,6 @@
 use Rattle.term_heap.specs.Held.{terms_at}
 use Rattle.term_ops.specs.Bags.{held}
-use Rattle.term_ops.proofs.Sifting.{all-sifted}
+use Rattle.term_ops.proofs.ListsWithout.{all-sifted}
 use Rattle.term_ops.proofs.lists.without_each.Goals as goal
 
 pub returns-clause-left : goal.returns-clause-left

@@ -1,7 +1,7 @@
 use Rattle.std.proofs.Common.{rules}
 use Rattle.term_heap.specs.View.{term_of}
 use Rattle.term_ops.specs.MapParts.{HasParts}
-use Rattle.term_ops.proofs.Lookups.{parts-ascend, looked-found, looked-missing}
+use Rattle.term_ops.proofs.MapsLookup.{parts-ascend, looked-found, looked-missing}
 use Rattle.term_ops.proofs.map_parts.look_up.Goals as goal
 
 pub place_of-requires-clause-rise : goal.place_of-requires-clause-rise

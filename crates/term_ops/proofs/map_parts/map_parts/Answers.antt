@@ -1,6 +1,6 @@
 use Rattle.std.proofs.Common.{sym, ap, ◌∙◌}
 use Rattle.term_heap.specs.View.{term_of, cell_term}
-use Rattle.term_ops.proofs.MapCells.{has-parts}
+use Rattle.term_ops.proofs.MapPartsCells.{has-parts}
 use Rattle.term_ops.proofs.map_parts.map_parts.Goals as goal
 
 pub returns-in-Map-clause-parts : goal.returns-in-Map-clause-parts

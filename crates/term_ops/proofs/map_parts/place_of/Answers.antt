@@ -1,6 +1,6 @@
 use Rattle.std.proofs.Common.{◌<◌, ◌+◌, ◌-◌, ◌/◌, length, arith}
 use Rattle.term_heap.specs.View.{term_of}
-use Rattle.term_ops.proofs.Places.{less-here, equal-here, greater-here}
+use Rattle.term_ops.proofs.MapPartsPlaces.{less-here, equal-here, greater-here}
 use Rattle.term_ops.proofs.map_parts.place_of.Goals as goal
 
 pub loop-low-preserved-in-Less : goal.loop-low-preserved-in-Less

@@ -1,4 +1,4 @@
-use Rattle.term_ops.proofs.Updating.{entries-next}
+use Rattle.term_ops.proofs.MapUpdates.{entries-next}
 use Rattle.term_ops.proofs.map_update.entries_of.Goals as goal
 
 pub loop-id-preserved : goal.loop-id-preserved

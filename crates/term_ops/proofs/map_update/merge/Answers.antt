@@ -5,7 +5,7 @@ use Rattle.term_heap.specs.Entries.{entries_at}
 use Rattle.term_heap.specs.View.{term_of}
 use Rattle.term_heap.specs.declared.cell.TermId.{TermId}
 use Rattle.term_ops.specs.MapParts.{HasParts}
-use Rattle.term_ops.proofs.Updating.{pairs_at, merged}
+use Rattle.term_ops.proofs.MapUpdates.{pairs_at, merged}
 use Rattle.term_ops.proofs.map_update.merge.Goals as goal
 
 pub returns-clause-answer : goal.returns-clause-answer

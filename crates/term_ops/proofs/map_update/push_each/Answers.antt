@@ -1,4 +1,4 @@
-use Rattle.term_ops.proofs.Updating.{zip-step}
+use Rattle.term_ops.proofs.MapUpdates.{zip-step}
 use Rattle.term_ops.proofs.map_update.push_each.Goals as goal
 
 pub loop-place-preserved : goal.loop-place-preserved

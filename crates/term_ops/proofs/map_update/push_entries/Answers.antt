@@ -1,4 +1,4 @@
-use Rattle.term_ops.proofs.Updating.{zipped}
+use Rattle.term_ops.proofs.MapUpdates.{zipped}
 use Rattle.term_ops.proofs.map_update.push_entries.Goals as goal
 
 pub returns-clause-held : goal.returns-clause-held

@@ -1,7 +1,7 @@
 use Rattle.std.proofs.Common.{List, ap, ◌∙◌}
 use Rattle.std.specs.List.{insert, slice_set}
 use Rattle.term_heap.specs.declared.cell.TermId.{TermId}
-use Rattle.term_ops.proofs.Updating.{pairs-ascend, put-there, put-new}
+use Rattle.term_ops.proofs.MapUpdates.{pairs-ascend, put-there, put-new}
 use Rattle.term_ops.proofs.map_update.with_value.Goals as goal
 
 pub place_of-requires-clause-rise : goal.place_of-requires-clause-rise

@@ -1,4 +1,4 @@
-use Rattle.term_ops.proofs.Updating.{pairs-ascend, removed-there, removed-none}
+use Rattle.term_ops.proofs.MapUpdates.{pairs-ascend, removed-there, removed-none}
 use Rattle.term_ops.proofs.map_update.without_key.Goals as goal
 
 pub place_of-requires-clause-rise : goal.place_of-requires-clause-rise

@@ -1,6 +1,6 @@
 use Rattle.std.proofs.Common.{codes}
-use Rattle.term_ops.proofs.MapAnswers.{pair-made}
-use Rattle.term_ops.proofs.MapWords.{ok_stands}
+use Rattle.term_ops.proofs.MapsAnswers.{pair-made}
+use Rattle.term_ops.proofs.MapsWords.{ok_stands}
 use Rattle.term_ops.proofs.maps.found.Goals as goal
 
 pub returns-clause-term : goal.returns-clause-term

@@ -1,4 +1,4 @@
-use Rattle.term_ops.proofs.MapAnswers.{tuples-next}
+use Rattle.term_ops.proofs.MapsAnswers.{tuples-next}
 use Rattle.term_ops.proofs.maps.tuples.Goals as goal
 
 pub loop-place-preserved : goal.loop-place-preserved

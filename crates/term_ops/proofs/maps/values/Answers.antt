@@ -1,7 +1,7 @@
 use Rattle.std.proofs.Common.{◌∙◌, rules}
 use Rattle.term_heap.specs.View.{term_of}
 use Rattle.term_ops.specs.MapParts.{HasParts}
-use Rattle.term_ops.proofs.MapAnswers.{gives-values}
+use Rattle.term_ops.proofs.MapsAnswers.{gives-values}
 use Rattle.term_ops.proofs.maps.values.Goals as goal
 
 pub returns-in_ok-list-in-Some-clause-answer : goal.returns-in_ok-list-in-Some-clause-answer

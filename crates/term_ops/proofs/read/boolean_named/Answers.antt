@@ -1,6 +1,6 @@
 use Rattle.std.proofs.Common.{ap, sym, ◌∙◌}
 use Rattle.term_ops.specs.Parts.{truth_named}
-use Rattle.term_ops.proofs.Words.{truth_of_characters, no_truth}
+use Rattle.term_ops.proofs.ReadWords.{truth_of_characters, no_truth}
 use Rattle.term_ops.proofs.read.boolean_named.Goals as goal
 
 pub returns-in-true : goal.returns-in-true

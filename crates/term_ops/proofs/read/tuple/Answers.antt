@@ -5,7 +5,7 @@ use Rattle.term_heap.specs.View.{terms_in, parts_in, texts_in, term_of, cell_ter
 use Rattle.term_heap.specs.declared.cell.TermId.{TermId}
 use Rattle.term_heap.proofs.Made.{IsId, term_at}
 use Rattle.term_ops.specs.Parts.{tuple_elements}
-use Rattle.term_ops.proofs.TupleParts.{AreParts, tuple-parts, items-terms}
+use Rattle.term_ops.proofs.ReadTuples.{AreParts, tuple-parts, items-terms}
 use Rattle.term_ops.proofs.read.tuple.Goals as goal
 
 opened : (c : goal.In-Tuple) → (xs : List Term) × (term_of c.args.heap.now c.args.id ≡ Tuple (terms xs)) × AreParts (parts_in c.args.heap.now) (terms_in c.args.heap.now) c.in-Tuple.first c.in-Tuple.count xs

@@ -2,7 +2,7 @@ use Rattle.std.proofs.Common.{nat_eq, sym, ap, ◌∙◌}
 use Rattle.std.proofs.lemmas.List.{length-map}
 use Rattle.term_heap.specs.View.{term_of}
 use Rattle.term_heap.specs.Held.{terms_at}
-use Rattle.term_ops.proofs.Sizes.{sized}
+use Rattle.term_ops.proofs.SizeLemmas.{sized}
 use Rattle.term_ops.proofs.sized.has_arity.Goals as goal
 
 pub returns : goal.returns

@@ -6,7 +6,7 @@ use Rattle.term_heap.specs.Held.{terms_at}
 use Rattle.term_heap.specs.declared.cell.TermId.{TermId}
 use Rattle.term_ops.specs.Answers.{Gives}
 use Rattle.term_ops.specs.declared.answer.PureAnswer.TheVariants as a
-use Rattle.term_ops.proofs.Setting.{many, replicated}
+use Rattle.term_ops.proofs.TuplesReplaced.{many, replicated}
 use Rattle.term_ops.proofs.tuples.make_tuple.Goals as goal
 
 pub returns-in_ok-tuple-in-Some-clause-answer : goal.returns-in_ok-tuple-in-Some-clause-answer

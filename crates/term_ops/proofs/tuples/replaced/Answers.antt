@@ -5,7 +5,7 @@ use Rattle.term_heap.specs.declared.cell.TermId.{TermId}
 use Rattle.ej_term.specs.Outcome.{Value}
 use Rattle.term_heap.specs.View.{term_of}
 use Rattle.term_heap.specs.Held.{terms_at}
-use Rattle.term_ops.proofs.Setting.{set-element, set-none}
+use Rattle.term_ops.proofs.TuplesReplaced.{set-element, set-none}
 use Rattle.term_ops.proofs.tuples.replaced.Goals as goal
 
 pub returns-then-place-elements-clause-elements : goal.returns-then-place-elements-clause-elements

@@ -1,8 +1,7 @@
-use Rattle.std.proofs.Common.{◌≡◌, List, ◌++◌, map, length, is_some, ap, refl, rules}
+use Rattle.std.proofs.Common.{◌≡◌, ◌++◌, map, length, is_some, ap, refl, rules}
 use Rattle.ej_term.specs.Term as term
 use Rattle.term_heap.specs.Cells.{pairs}
 use Rattle.term_heap.specs.View.{terms_in, parts_in}
-use Rattle.term_heap.specs.declared.cell.TermId.{TermId}
 use Rattle.term_heap.proofs.Made.{term_at, made}
 use Rattle.term_heap.proofs.Mapped.{rising-made}
 use Rattle.term_heap.proofs.heap.Heap.rising_map.Goals as goal

@@ -1,0 +1,8 @@
+//! Laws of the definitions: a function that does nothing, with the law as its contract.
+
+ghost use Rattle.beam_code.specs.LabelLaw.{FirstBreakIsNone};
+
+/// The first break of a label rule is none exactly where a module keeps the label rules.
+pub fn first_break_is_none()
+    ensures { FirstBreakIsNone }
+{}

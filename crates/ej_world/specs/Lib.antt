@@ -1,4 +1,0 @@
-pub mod World
-pub mod Run
-pub mod Agree
-pub mod Lines

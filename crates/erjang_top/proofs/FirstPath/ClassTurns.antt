@@ -1,0 +1,123 @@
+-- What the class of an accepted module does in a first turn.
+use Rattle.std.proofs.Common.{◌≡◌, ℕ, suc, ◌+◌, ◌-◌, ◌*◌, ◌<◌, ◌≤◌, Bool, true, false, ◌&&◌, nat_le, List, [], ◌∷◌, map, length, codes, Option, None, Some, refl, ap, ◌∙◌, arith}
+use Rattle.std.specs.Prelude.{unwrap_or, if◌then◌else◌}
+use Rattle.std.specs.List.{list_all, AllByRecursion}
+use Rattle.std.specs.Option.{option_map, option_and_then}
+use Rattle.std.specs.Str.{bytes_eq}
+use Rattle.std.proofs.lemmas.Bool.{and_parts, leb-true}
+use Rattle.ej_term.specs.declared.class.Class3.TheVariants.{Error}
+use Rattle.ej_term.specs.Term.{Term}
+use Rattle.erjang_top.specs.first_path.World.{Raise}
+use Rattle.beam_code.specs.declared.module.Function.{Function}
+use Rattle.beam_code.specs.declared.module.Module.{Module}
+use Rattle.beam_code.specs.Keys.{Key, key_of, is_among}
+use Rattle.erjang_top.proofs.FirstPath.AcceptedRules.{accepted_rules}
+use Rattle.erjang_top.specs.first_path.LabelRules.{opcodes, begins_well, no_label_twice, labels_of}
+use Rattle.erjang_top.specs.first_path.Slots.{WellSlotted}
+use Rattle.erjang_top.specs.first_path.Accepted.{Accepted, is_atom_name, is_count, is_thin_opcode, is_thin_function}
+use Rattle.erjang_top.specs.first_path.Turn.{end_reason}
+use Rattle.erjang_top.specs.first_path.Weights.{weight, pool_weight}
+use Rattle.erjang_top.specs.first_path.ClassFile.{Method, Class}
+use Rattle.erjang_top.specs.first_path.ClassTurn.{OfTerm, Goes, Held, nothing_held, activation, run_method, Begun, At, after_run, enter, instructions_each, exported, resolved, uncaught, begin_at, turn}
+use Rattle.erjang_top.specs.Mangle.{class_name, method_name}
+use Rattle.erjang_top.specs.first_path.ModuleClass.{constants, first_name, method_of, methods_of, body, function_ops}
+use Rattle.erjang_top.proofs.FirstPath.ClassBody.{finished}
+use Rattle.erjang_top.proofs.FirstPath.ClassCode.{fuel, fuel-is}
+use Rattle.erjang_top.proofs.FirstPath.ClassFunction.{function-count, behind-all, runs-function}
+use Rattle.erjang_top.proofs.FirstPath.ClassNames.{class-test, none-exported, found-exported}
+use Rattle.erjang_top.proofs.FirstPath.ClassParts.{IsOf}
+use Rattle.erjang_top.proofs.FirstPath.Ending.{Ending, Returned, Refused, ending, events_of, reason_of, Does, does-same, given, how_of, list-of, undef_atom}
+use Rattle.erjang_top.proofs.FirstPath.Flows.{slotted-flows}
+use Rattle.erjang_top.proofs.FirstPath.Found.{Found, same-keys, all-of-found, test-of-found}
+use Rattle.erjang_top.proofs.FirstPath.ModuleValues.{IsAmong, values-among}
+
+begins : (cs : List Class) (me n : ℕ) (owner name : List ℕ) (args : List Term) → turn cs me n (Begun (how_of owner name args)) ≡ begin_at me n (Begun (how_of owner name args)) (resolved cs owner name args)
+begins cs me n owner name args =
+    ap (λ o. unwrap_or (option_map (λ ts. begin_at me n (Begun (how_of owner name args)) (resolved cs owner name ts)) o) (uncaught me (Begun (how_of owner name args)) (codes "badarg"))) (list-of args)
+
+-- a call of what is not there
+pub class-undef : (cs : List Class) (me n : ℕ) (owner name : List ℕ) (args : List Term) → resolved cs owner name args ≡ None
+    → Does (turn cs me n (Begun (how_of owner name args))) (Raise me Error undef_atom ∷ []) (end_reason Error undef_atom)
+class-undef cs me n owner name args none =
+    does-same (begins cs me n owner name args ∙ ap (begin_at me n (Begun (how_of owner name args))) none) (record { events = refl; outcome = refl })
+
+-- ---- where it enters
+
+abbrev entered_at : Class → List ℕ → List Term → Option Method → Option Goes
+entered_at c name args method = option_map (λ m. record { class = c; method = m; entry = 0; entered = map (λ t. OfTerm t) args }) method
+
+abbrev goes_to : Class → Method → List Term → Goes
+goes_to c method args = record { class = c; method = method; entry = 0; entered = map (λ t. OfTerm t) args }
+
+-- the class is loaded where its module is
+resolves : (m : Module) (c : Class) → IsOf m c → (owner name : List ℕ) (args : List Term) → resolved (c ∷ []) owner name args
+    ≡ (if bytes_eq m.name owner then entered_at c name args (exported c (method_name name (length args)) (methods_of m (constants m) (first_name (constants m)) m.functions)) else None)
+resolves m c is owner name args =
+    ap (λ o. option_and_then (λ k. entered_at k name args (exported k (method_name name (length args)) k.methods)) (if bytes_eq (unwrap_or o []) (class_name owner) then Some c else None)) is.name
+    ∙ ap (λ b. option_and_then (λ k. entered_at k name args (exported k (method_name name (length args)) k.methods)) (if b then Some c else None)) (class-test m.name owner)
+    ∙ by (bytes_eq m.name owner)
+  where
+    by : (b : Bool) → option_and_then (λ k. entered_at k name args (exported k (method_name name (length args)) k.methods)) (if b then Some c else None)
+        ≡ (if b then entered_at c name args (exported c (method_name name (length args)) (methods_of m (constants m) (first_name (constants m)) m.functions)) else None)
+    by true = ap (λ ms. entered_at c name args (exported c (method_name name (length args)) ms)) is.methods
+    by false = refl
+
+pub not-loaded : (m : Module) (c : Class) → IsOf m c → (owner name : List ℕ) (args : List Term) → bytes_eq m.name owner ≡ false → resolved (c ∷ []) owner name args ≡ None
+not-loaded m c is owner name args away =
+    resolves m c is owner name args ∙ ap (λ b. if b then entered_at c name args (exported c (method_name name (length args)) (methods_of m (constants m) (first_name (constants m)) m.functions)) else None) away
+
+pub not-exported : (m : Module) (c : Class) → IsOf m c → list_all is_thin_function m.functions ≡ true → (owner name : List ℕ) (args : List Term) → length args ≤ 255
+    → bytes_eq m.name owner ≡ true → is_among m.exports (name, length args) ≡ false → resolved (c ∷ []) owner name args ≡ None
+not-exported m c is thin owner name args few here private =
+    resolves m c is owner name args
+    ∙ ap (λ b. if b then entered_at c name args (exported c (method_name name (length args)) (methods_of m (constants m) (first_name (constants m)) m.functions)) else None) here
+    ∙ ap (entered_at c name args) (none-exported m c (constants m) (first_name (constants m)) m.functions name (length args) is.names thin (omega (arith, few)) private)
+
+-- ---- its turn
+
+-- a run to a method's end ends the process
+ends : (c : Class) (method : Method) (more me left left' : ℕ) (args : List Term) (end : Ending)
+    → run_method me left (activation c method 0) [] (nothing_held (map (λ t. OfTerm t) args)) ≡ finished me (nothing_held (map (λ t. OfTerm t) args)) end left'
+    → Does (enter (suc more) me left (goes_to c method args) (nothing_held (map (λ t. OfTerm t) args))) (events_of me end) (reason_of end)
+ends c method more me left left' args end ran =
+    let goes = goes_to c method args in
+    let held = nothing_held (map (λ t. OfTerm t) args) in
+    does-same (ap (after_run me (λ left'' goes' held'. enter more me left'' goes' held') (At goes held)) ran) (by end)
+  where
+    by : (end : Ending) → Does (after_run me (λ left'' goes' held'. enter more me left'' goes' held') (At (goes_to c method args) (nothing_held (map (λ t. OfTerm t) args)))
+        (finished me (nothing_held (map (λ t. OfTerm t) args)) end left')) (events_of me end) (reason_of end)
+    by (Returned t) = record { events = refl; outcome = refl }
+    by Refused = record { events = refl; outcome = refl }
+
+pub class-runs : (m : Module) (c : Class) → Accepted m → IsOf m c → list_all is_thin_function m.functions ≡ true → (me n : ℕ) (owner name : List ℕ) (args : List Term) → length args ≤ 255
+    → 0 < n → bytes_eq m.name owner ≡ true → is_among m.exports (name, length args) ≡ true → (f : Found (name, length args) m.functions)
+    → Does (turn (c ∷ []) me n (Begun (how_of owner name args))) (events_of me (ending (given args) (body f.function))) (reason_of (ending (given args) (body f.function)))
+class-runs m c a is thin me n owner name args few some here public' f =
+    let key : Key = (name, length args) in
+    let g : Function = f.function in
+    let values = constants m in
+    let count : length args ≡ g.arity = ap (λ (k : Key). k.1) (same-keys key (key_of g) f.here) in
+    let to = found-exported m c values (first_name values) m.functions name (length args) f is.names thin (omega (arith, few)) public' in
+    let method : Method = method_of m values to.index g in
+    let entered : resolved (c ∷ []) owner name args ≡ Some (goes_to c method args) =
+    resolves m c is owner name args
+    ∙ ap (λ b. if b then entered_at c name args (exported c (method_name name (length args)) (methods_of m values (first_name values) m.functions)) else None) here
+    ∙ ap (entered_at c name args) to.is in
+    let held : Held = nothing_held (map (λ t. OfTerm t) args) in
+    let fits = and_parts (list_all (λ h. nat_le (weight h) 32767) m.functions) (nat_le (pool_weight m) 65534) a.sizes in
+    let labels = and_parts (list_all (begins_well m.name) m.functions) (no_label_twice (labels_of m)) (accepted_rules m a) in
+    let light : weight g ≤ 32767 = leb-true (weight g) 32767 (test-of-found key m.functions (λ h. nat_le (weight h) 32767) f fits.0) in
+    let ops = function_ops values g in
+    let budget : ℕ = (n + 1) * instructions_each in
+    let spare : budget ≡ fuel ops (budget - length ops) = omega (arith, light, some, function-count values g, fuel-is ops (budget - length ops)) in
+    let transfers : n ≡ suc (n - 1) = omega (arith, some) in
+    let all-thin : list_all is_thin_opcode (body g) ≡ true =
+    behind-all is_thin_opcode g.entry (opcodes g)
+    (and_parts (is_atom_name g.name && nat_le g.arity 255 && is_count g.entry) (list_all is_thin_opcode (opcodes g)) (test-of-found key m.functions is_thin_function f thin)).1 in
+    let ran : run_method me budget (activation c method 0) [] held ≡ finished me held (ending (given args) (body g)) (budget - length ops) =
+    ap (λ k. run_method me k (activation c method 0) [] held) spare
+    ∙ runs-function c method me values is.runtime is.entries g (budget - length ops) args held refl refl count refl
+    (slotted-flows m.name g (test-of-found key m.functions (begins_well m.name) f labels.0) (all-of-found key m.functions WellSlotted f a.slots))
+    (all-of-found key m.functions (λ h. AllByRecursion (IsAmong values) (body h)) f (values-among m)) all-thin in
+    does-same (begins (c ∷ []) me n owner name args ∙ ap (begin_at me n (Begun (how_of owner name args))) entered ∙ ap (λ k. enter k me budget (goes_to c method args) held) transfers)
+    (ends c method (n - 1) me budget (budget - length ops) args (ending (given args) (body g)) ran)

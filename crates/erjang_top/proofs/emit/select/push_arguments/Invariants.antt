@@ -1,8 +1,0 @@
-use Rattle.std.proofs.Common.{◌≡◌, ◌-◌, ◌++◌}
-use Rattle.std.specs.List.{flat_map}
-use Rattle.erjang_top.specs.ClassFile.{op_bytes}
-use Rattle.erjang_top.specs.ModuleClass.{take_arguments}
-use Rattle.erjang_top.proofs.emit.select.push_arguments.Given as goal
-
-abbrev pub invariant-loop-at : goal.invariant-loop-at
-invariant-loop-at l = l.code.items ++ flat_map op_bytes (take_arguments l.at (l.count - l.at)) ≡ l.initial.code.items ++ flat_map op_bytes (take_arguments 0 l.count)

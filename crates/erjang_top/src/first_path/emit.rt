@@ -1,0 +1,29 @@
+//! Writes the class of a module.
+
+ghost use Rattle.std.specs.Prelude.{IfOk};
+ghost use Rattle.erjang_top.specs.first_path.Accepted.{Accepted};
+ghost use Rattle.erjang_top.specs.first_path.Emitted.{Emitted};
+
+mod atom;
+mod bytes;
+mod class;
+mod constant;
+mod exports;
+mod function;
+mod method;
+mod names;
+mod op;
+mod pool;
+mod select;
+
+use beam_code::Module;
+use class::write_class;
+use std::alloc::{AllocError, Global};
+
+/// The bytes of the module's class. The error says that memory was wanting.
+pub(crate) fn emit(alloc: Global, source: &Module) -> Result<Vec<u8>, AllocError>
+    requires { Accepted source.now }
+    ensures { IfOk result (λ class. Emitted source.now class.items) }
+{
+    write_class(alloc, source)
+}

@@ -1,6 +1,0 @@
-use Rattle.std.proofs.Common.{arith}
-use Rattle.term_ops.proofs.BuiltinNumbers.{numbers_of_two}
-use Rattle.term_ops.proofs.builtins.logic.Goals as goal
-
-pub unreachable-requires : goal.unreachable-requires
-unreachable-requires c = grind (arith, numbers_of_two c.args.number c.requires.number)
