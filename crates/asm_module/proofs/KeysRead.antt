@@ -1,12 +1,11 @@
 -- The keys of the functions that forms begin, form by form.
 use Rattle.std.proofs.Common.{◌≡◌, ℕ, ◌+◌, ◌<◌, ◌≤◌, Bool, not, ◌||◌, List, [], ◌∷◌, ◌++◌, map, drop, length, get_or, sym, ap, ◌∙◌}
-use Rattle.std.specs.Prelude.{if◌then◌else◌, Option, Some, None, option_map, Result}
+use Rattle.std.specs.Prelude.{if◌then◌else◌, Option, Some, None, option_map}
 use Rattle.std.specs.List.{cons_option}
 use Rattle.std.proofs.lemmas.List.{drop_all}
 use Rattle.ej_term.specs.declared.asm_term.AsmTerm.{AsmTerm}
 use Rattle.beam_code.specs.Keys.{Key, is_among}
-use Rattle.asm_module.specs.declared.fault.FormFault.{FormFault}
-use Rattle.asm_module.specs.Modules.{Heading, Headed, heading, key_of, keys_of, header_of}
+use Rattle.asm_module.specs.Modules.{Heading, heading, key_of, keys_of, header_of}
 use Rattle.asm_module.specs.Seen.{key_seen, is_held}
 use Rattle.asm_module.proofs.KeySets.{Held, or-none, form-held}
 use Rattle.asm_module.proofs.ReadingLemmas.{dropped}

@@ -1,7 +1,7 @@
 -- What a module's parts have where the forms have a reading.
-use Rattle.std.proofs.Common.{◌≡◌, ℕ, ◌+◌, Bool, true, false, not, ◌&&◌, ◌||◌, List, [], ◌∷◌, ◌++◌, append-nil, append_assoc, map, refl, sym, ap, ◌∙◌, subst}
+use Rattle.std.proofs.Common.{◌≡◌, ℕ, ◌+◌, Bool, true, false, ◌&&◌, List, [], ◌∷◌, ◌++◌, append-nil, append_assoc, map, refl, sym, ap, ◌∙◌, subst}
 use Rattle.std.specs.Prelude.{if◌then◌else◌, Result, Ok, Err, Option, None, Some, option_map, option_and_then, unwrap_or, codes}
-use Rattle.std.specs.List.{list_all, filter_map, cons_option}
+use Rattle.std.specs.List.{list_all, cons_option}
 use Rattle.beam_code.specs.declared.operand.TheConstants.{LAST_COUNT}
 use Rattle.ej_term.specs.declared.asm_term.AsmTerm.{AsmTerm}
 use Rattle.beam_code.specs.declared.module.Function.{Function}
@@ -11,7 +11,7 @@ use Rattle.asm_module.specs.declared.fault.FormFault.{FormFault}
 use Rattle.asm_module.specs.declared.fault.FormFault.TheVariants.{BadForm}
 use Rattle.asm_module.specs.Terms.{is_word, number, elements, tagged, pair_of, pair, each, Tagged}
 use Rattle.asm_module.specs.Instructions.{instruction}
-use Rattle.asm_module.specs.Modules.{Heading, Rest, Header, Headed, nothing, is_function, is_function_tagged, heading, heading_tagged, heading_parts, begins, begins_new, key_of, keys_of, ◌>>=◌, then_rest, with_instruction, with_function, function_with, functions_of, functions_from, rest_of, or_bad, with_forms, export, exports_of, is_unset, if_function, export_key, header_pair, header_form, header_of, next_form, with_exports, with_attributes, with_labels}
+use Rattle.asm_module.specs.Modules.{Heading, Rest, Header, Headed, nothing, is_function, is_function_tagged, heading, heading_tagged, heading_parts, begins, begins_new, key_of, keys_of, ◌>>=◌, then_rest, with_instruction, with_function, functions_of, functions_from, rest_of, or_bad, with_forms, export, exports_of, is_unset, if_function, export_key, header_pair, header_form, header_of, next_form, with_exports, with_attributes, with_labels}
 use Rattle.asm_module.proofs.KeySets.{one_more}
 
 ok-same : {X : Type 0} (a b : X) → ◌≡◌ {A = Result X FormFault} (Ok a) (Ok b) → a ≡ b

@@ -1,5 +1,5 @@
 -- Terms that end before the places of a shape do.
-use Rattle.std.proofs.Common.{◌≡◌, ◌<◌, refl, sym, ap, ◌∙◌, subst, ℕ, List, [], ◌∷◌, length, drop, Option, None, arith}
+use Rattle.std.proofs.Common.{◌≡◌, ◌<◌, refl, sym, ◌∙◌, ℕ, List, [], ◌∷◌, length, drop, None, arith}
 use Rattle.std.proofs.lemmas.Grind.{common_steps}
 use Rattle.ej_term.specs.declared.asm_term.AsmTerm.{AsmTerm}
 use Rattle.genop_table.specs.declared.part.Place.{Place}

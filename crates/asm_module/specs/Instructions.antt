@@ -1,5 +1,5 @@
 -- An instruction's form, and the first case by which it is refused.
-use Rattle.std.specs.Prelude.{ℕ, Bool, true, false, not, nat_eq, nat_le, ◌&&◌, ◌||◌, if◌then◌else◌, List, [], ◌∷◌, length, codes, encode_utf8_all, slice_get, unwrap_or, Result, Ok, Err, Option, None, Some, option_map, option_and_then}
+use Rattle.std.specs.Prelude.{ℕ, Bool, true, not, nat_eq, nat_le, ◌&&◌, ◌||◌, if◌then◌else◌, List, [], length, codes, encode_utf8_all, slice_get, unwrap_or, Result, Ok, Err, Option, None, Some, option_map, option_and_then}
 use Rattle.std.specs.Option.{is_some}
 use Rattle.ej_term.specs.declared.asm_term.AsmTerm.{AsmTerm}
 use Rattle.ej_tables.specs.Rows.{number_of}

@@ -1,5 +1,5 @@
 -- The functions that are read so far, with what is read behind them.
-use Rattle.std.specs.Prelude.{ℕ, ◌+◌, List, ◌∷◌, ◌++◌, map, length, Result, Ok}
+use Rattle.std.specs.Prelude.{ℕ, List, ◌∷◌, ◌++◌, map, length, Result, Ok}
 use Rattle.ej_term.specs.declared.asm_term.AsmTerm.{AsmTerm}
 use Rattle.beam_code.specs.declared.module.Function.{Function}
 use Rattle.beam_code.specs.Keys.{Key}

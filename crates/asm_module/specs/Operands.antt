@@ -1,5 +1,5 @@
 -- The operands of an instruction's form (OTP 24, the assembly that `erlc -S` writes), place by place.
-use Rattle.std.specs.Prelude.{ℕ, pos, Bool, true, false, nat_eq, ◌&&◌, ◌||◌, if◌then◌else◌, List, [], ◌∷◌, ◌++◌, codes, unwrap_or, Option, None, Some, option_map, option_and_then}
+use Rattle.std.specs.Prelude.{ℕ, pos, Bool, true, false, if◌then◌else◌, List, [], ◌∷◌, ◌++◌, codes, unwrap_or, Option, None, Some, option_map, option_and_then}
 use Rattle.std.specs.Option.{option_zip}
 use Rattle.ej_term.specs.declared.asm_term.AsmTerm.{AsmTerm}
 use Rattle.genop_table.specs.declared.part.Limit.{Limit}

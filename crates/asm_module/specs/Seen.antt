@@ -1,5 +1,5 @@
 -- What the code's values are seen as.
-use Rattle.std.specs.Prelude.{◌≡◌, ℕ, Bool, List, map, Result, Ok, Err, Option}
+use Rattle.std.specs.Prelude.{◌≡◌, ℕ, Bool, List, map, Result, Ok, Err}
 use Rattle.std.specs.Borrow.{Bor}
 use Rattle.ej_term.specs.declared.asm_term.AsmTerm.{AsmTerm}
 use Rattle.beam_code.specs.Keys.{Key, is_among}

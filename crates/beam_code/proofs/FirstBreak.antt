@@ -2,12 +2,12 @@
 use Rattle.std.proofs.Common.{◌≡◌, ℕ, ◌+◌, Bool, true, false, not, nat_eq, ◌&&◌, ◌||◌, List, [], ◌∷◌, ◌++◌, append_assoc, append-nil, Option, None, Some, is_some, refl, sym, ap, ◌∙◌}
 use Rattle.std.specs.Prelude.{if◌then◌else◌}
 use Rattle.std.specs.Cmp.{nat_eq_equiv}
-use Rattle.std.specs.List.{list_any, list_all, flat_map, cons_option}
+use Rattle.std.specs.List.{list_all, flat_map, cons_option}
 use Rattle.std.specs.Option.{option_or}
 use Rattle.std.proofs.lemmas.Bool.{and_parts, true≢false}
 use Rattle.std.proofs.lemmas.List.Folds.{list_any-append}
 use Rattle.beam_code.specs.Code.{FunctionCode, ModuleCode}
-use Rattle.beam_code.specs.Labels.{Break, Twice, Missing, BadEntry, BadArity, Scope, is_in, defined_by, defined_in, begins_well, names_rightly, missing, agrees, missing_or, misuse, twice, with_label, break_at, break_in_code, break_in, break_from, scope_of, arity_of, first_break, uses_labels_well, no_label_twice, labels_of, KeepsLabelRules}
+use Rattle.beam_code.specs.Labels.{Break, Twice, BadEntry, Scope, is_in, defined_by, defined_in, begins_well, names_rightly, missing, agrees, missing_or, misuse, twice, with_label, break_at, break_in_code, break_in, break_from, scope_of, arity_of, first_break, uses_labels_well, no_label_twice, labels_of, KeepsLabelRules}
 use Rattle.beam_code.specs.Opcode.{Opcode}
 
 abbrev is_none : Option Break → Bool

@@ -1,5 +1,5 @@
 -- Operands that fit their row are those of an instruction.
-use Rattle.std.proofs.Common.{◌≡◌, suc, arith, ℕ, ℤ, pos, negsuc, Bool, true, false, nat_eq, nat_le, ◌&&◌, List, [], ◌∷◌, length, Option, None, Some, is_some, cond, refl, sym, ap, subst, ◌∙◌}
+use Rattle.std.proofs.Common.{◌≡◌, suc, arith, ℕ, pos, Bool, true, false, nat_eq, nat_le, ◌&&◌, List, [], ◌∷◌, length, Option, None, Some, is_some, cond, refl, sym, ap, subst, ◌∙◌}
 use Rattle.std.specs.Prelude.{if◌then◌else◌, option_map, option_and_then}
 use Rattle.std.specs.List.{find, AllByRecursion}
 use Rattle.std.proofs.lemmas.Bool.Decides.{nat_tests}
@@ -22,7 +22,7 @@ use Rattle.beam_code.specs.declared.operand.Src.{Src}
 use Rattle.beam_code.specs.declared.operand.Src.TheVariants as source
 use Rattle.beam_code.specs.declared.operand.TheConstants.{LAST_COUNT}
 use Rattle.beam_code.specs.Decoded as d
-use Rattle.beam_code.specs.Fits.{fits_part, is_kept, number_behind, first_fits, fits_places, fits_found, fits, is_source, is_count, is_atom, is_register, is_target, test_takes, raise_takes}
+use Rattle.beam_code.specs.Fits.{fits_part, is_kept, number_behind, first_fits, fits_places, fits_found, fits, is_source, is_count, is_atom, is_target, test_takes, raise_takes}
 use Rattle.beam_code.specs.Opcode as o
 use Rattle.beam_code.specs.Seen.{opcode_seen}
 

@@ -1,17 +1,10 @@
 -- What an instruction stands for tells the instruction, and so on up to modules.
-use Rattle.std.proofs.Common.{◌≡◌, ℕ, Bool, true, false, nat_eq, List, [], ◌∷◌, map, refl, sym, ap, ◌∙◌, subst, arith}
-use Rattle.std.specs.Prelude.{if◌then◌else◌, ◌&&◌}
-use Rattle.std.specs.List.{list_all}
+use Rattle.std.proofs.Common.{◌≡◌, ℕ, true, List, ap, subst}
 use Rattle.std.proofs.Math.Bool.{Bool-set}
-use Rattle.std.proofs.lemmas.Bool.Decides.{nat_tests}
 use Rattle.beam_code.specs.declared.instr.Instr.{Instr}
 use Rattle.beam_code.specs.declared.module.Function.{Function}
 use Rattle.beam_code.specs.declared.module.Module.{Module}
 use Rattle.beam_code.specs.declared.operand.Operand.{Operand}
-use Rattle.beam_code.specs.declared.operand.Operand.TheVariants as operand
-use Rattle.beam_code.specs.declared.operand.Reg.TheVariants as register
-use Rattle.beam_code.specs.declared.operand.Src.{Src}
-use Rattle.beam_code.specs.declared.operand.Src.TheVariants as source
 use Rattle.beam_code.specs.Fits.{fits}
 use Rattle.beam_code.specs.Keys.{Key, are_distinct, are_exports}
 

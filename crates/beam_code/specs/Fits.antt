@@ -1,5 +1,5 @@
 -- Which operands fit a row of the table of instructions (OTP 24, `genop.tab`), with the limits of the numbers in them.
-use Rattle.std.specs.Prelude.{ℕ, ℤ, pos, Bool, true, false, not, nat_eq, nat_le, nat_lt, ◌&&◌, if◌then◌else◌, List, [], ◌∷◌, length, Option, None, Some}
+use Rattle.std.specs.Prelude.{ℕ, pos, Bool, true, false, not, nat_eq, nat_le, nat_lt, ◌&&◌, if◌then◌else◌, List, [], ◌∷◌, length, Option, None, Some}
 use Rattle.std.specs.List.{list_all}
 use Rattle.genop_table.specs.declared.part.Limit.{Limit}
 use Rattle.genop_table.specs.declared.part.Limit.TheVariants as limit

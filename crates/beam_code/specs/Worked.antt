@@ -7,7 +7,7 @@ use Rattle.beam_code.specs.declared.operand.Reg.{Reg}
 use Rattle.beam_code.specs.declared.operand.Reg.TheVariants.{X, Y}
 use Rattle.beam_code.specs.declared.operand.Src.{Src}
 use Rattle.beam_code.specs.declared.operand.Src.TheVariants as source
-use Rattle.beam_code.specs.Code.{FunctionCode, ModuleCode}
+use Rattle.beam_code.specs.Code.{FunctionCode}
 use Rattle.beam_code.specs.Decoded.{decoded_row}
 use Rattle.beam_code.specs.Fits.{fits}
 use Rattle.beam_code.specs.Labels.{Break, Twice, Missing, BadEntry, BadArity, first_break}

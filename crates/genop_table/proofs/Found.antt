@@ -1,5 +1,5 @@
 -- What is found in the code's table, and in the definition's.
-use Rattle.std.proofs.Common.{refl, sym, ap, ◌∙◌, ◌≡◌, Bool, true, false, List, [], ◌∷◌, map, Option, None, Some}
+use Rattle.std.proofs.Common.{refl, sym, ap, ◌∙◌, ◌≡◌, Bool, true, false, List, [], ◌∷◌, map, None, Some}
 use Rattle.std.specs.List.{find}
 use Rattle.std.specs.Option.{option_map}
 

@@ -1,4 +1,4 @@
-use Rattle.std.proofs.Common.{◌≡◌, sym, ap, ap₂, ◌∙◌, length}
+use Rattle.std.proofs.Common.{sym, ap, ap₂, ◌∙◌, length}
 use Rattle.asm_module.specs.Instructions.{instruction}
 use Rattle.asm_module.proofs.FunctionLemmas.{instruction-step, instruction-fails, function-step, function-fails}
 use Rattle.asm_module.proofs.functions.next_function.Goals as goal
