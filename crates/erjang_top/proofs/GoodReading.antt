@@ -21,12 +21,11 @@ use Rattle.beam_code.specs.Keys.{Key, is_among}
 use Rattle.beam_code.specs.Parts.{Instruction, fitting, FunctionParts, ModuleParts}
 use Rattle.asm_terms.specs.Numbers.{has_64_bits}
 use Rattle.asm_module.specs.declared.fault.FormFault.{FormFault}
-use Rattle.asm_module.specs.declared.fault.FormFault.TheVariants.{BadForm}
 use Rattle.asm_module.specs.Terms.{is_word, atom_in, atom, integer_in, integer, up_to, number, tuple_in, tuple, Tagged, tagged_parts, tagged, pair_of, pair, pair_with, behind}
-use Rattle.asm_module.specs.Operands.{register_named, nil_named, value_named, nil_of, source_paired, source_of, external_with, external_parts, external_tagged, external_of, operand_of, is_need, one, kept_of, operands_of}
+use Rattle.asm_module.specs.Operands.{register_named, nil_named, value_named, source_paired, source_of, external_with, external_parts, external_tagged, operand_of, is_need, one, kept_of, operands_of}
 use Rattle.asm_module.specs.Instructions as forms
 use Rattle.asm_module.specs.Instructions.{Written, written_tagged, written_in, written, terms_of, row_named, is_strange, stranger, row_of, number_in, bare, in_tuple, by_terms, instruction_of, or_stranger, or_strange, or_unknown, or_nameless, instruction}
-use Rattle.asm_module.specs.Modules.{Heading, key_of, heading_with, heading_of, heading_parts, heading_tagged, heading, keys_of, or_bad, ◌>>=◌, begins_new, begins, Rest, with_instruction, function_with, with_function, then_rest, is_function, rest_of, functions_from, functions_of, Header, nothing, Headed, with_forms, header_form, next_form, header_of, if_named, module_name, reading}
+use Rattle.asm_module.specs.Modules.{Heading, key_of, heading_with, heading_of, heading_parts, heading_tagged, heading, keys_of, or_bad, ◌>>=◌, begins_new, begins, Rest, with_instruction, with_function, then_rest, is_function, rest_of, functions_from, functions_of, nothing, Headed, with_forms, header_form, next_form, header_of, if_named, module_name, reading}
 use Rattle.erjang_top.proofs.GoodTerms.{good_step, good, Good, EachGood, parts-all}
 
 -- ---- options and results

@@ -1,23 +1,20 @@
 -- The terms that a text's forms are made of have names and integers in range.
-use Rattle.std.proofs.Common.{◌≡◌, ℕ, ◌<◌, ℤ, pos, negsuc, Bool, true, false, ◌&&◌, nat_lt, nat_le, List, [], ◌∷◌, map, length, Option, Some, None, IfSome, option_map, option_and_then, if◌then◌else◌, refl, sym, ap, ap₂, ◌∙◌, subst, arith}
+use Rattle.std.proofs.Common.{◌≡◌, ℕ, ℤ, Bool, true, false, nat_lt, nat_le, List, [], ◌∷◌, map, length, Option, Some, None, if◌then◌else◌, refl, sym, ap, ◌∙◌, arith}
 use Rattle.std.specs.Bool.{⊤}
 use Rattle.std.specs.List.{list_all}
 use Rattle.std.specs.Str.{all_scalars, chars, is_utf8}
 use Rattle.std.proofs.lemmas.Bool.{and_parts, and_from, ltb-true}
 use Rattle.std.proofs.lemmas.Str.{scalars-chars, IsUtf8-from_is_utf8}
 use Rattle.std.proofs.Math.Utf8.{scalar, low_scalar}
-use Rattle.ej_term.specs.declared.asm_term.AsmTerm.{AsmTerm, out-AsmTerm, fold-AsmTerm, fold_out-AsmTerm, fold-roll-AsmTerm}
-use Rattle.ej_term.specs.declared.asm_term.AsmTerm.TheFolds.{map-AsmTerm}
+use Rattle.ej_term.specs.declared.asm_term.AsmTerm.{AsmTerm, fold-AsmTerm, fold-roll-AsmTerm}
 use Rattle.ej_term.specs.declared.asm_term.AsmTerm.TheOpen as o
 use Rattle.ej_term.specs.declared.asm_term.AsmTerm.TheOpen.{AsmTerm-F}
 use Rattle.ej_term.specs.declared.asm_term.AsmTerm.TheVariants as v
 use Rattle.asm_terms.specs.Characters.{characters}
-use Rattle.asm_terms.specs.Forms.{IsForm, AreFormsOf, AreForms}
+use Rattle.asm_terms.specs.Forms.{AreFormsOf, AreForms}
 use Rattle.asm_terms.specs.Numbers.{has_64_bits}
-use Rattle.asm_terms.specs.Tokens.{form_tokens}
 use Rattle.asm_terms.specs.declared.token.Token.{Token}
 use Rattle.asm_terms.specs.Grammar.{IsTerm, int, atom, string, «opaque», pid, reference, external, empty_tuple, filled_tuple, empty_list, filled_list, empty_map, filled_map, AreMoreParts, no_part, part, AreMoreElements, no_element, element, bar, AreMorePairs, no_pair, pair}
-use Rattle.asm_module.specs.Terms as terms
 use Rattle.erjang_top.specs.first_path.Accepted.{is_atom_name}
 use Rattle.term_text.proofs.GoodTokens.{AllGood, AreScalars, form-left}
 

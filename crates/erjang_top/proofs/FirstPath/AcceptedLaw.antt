@@ -1,11 +1,11 @@
 -- A module is accepted where each check passes.
-use Rattle.std.proofs.Common.{◌≡◌, ◌↔◌, IsTrue, ℕ, Bool, true, false, not, ◌&&◌, List, [], ◌∷◌, length, None, Result, Ok, Err, IfOk, refl, sym, ap, ◌∙◌}
-use Rattle.std.specs.Prelude.{nat_lt, is_some}
+use Rattle.std.proofs.Common.{◌≡◌, ◌↔◌, IsTrue, ℕ, Bool, true, false, ◌&&◌, List, [], ◌∷◌, length, Result, Ok, Err, IfOk, refl, sym, ◌∙◌}
+use Rattle.std.specs.Prelude.{nat_lt}
 use Rattle.std.specs.List.{list_all, filter_map, flat_map, AllByRecursion}
 use Rattle.std.proofs.lemmas.Bool.{and_parts, true≢false}
 use Rattle.beam_code.specs.declared.module.Function.{Function}
 use Rattle.beam_code.specs.declared.module.Module.{Module}
-use Rattle.erjang_top.specs.first_path.LabelRules.{opcodes, defined_label, no_label_twice, begins_well, labels_of, meets_label_rules}
+use Rattle.erjang_top.specs.first_path.LabelRules.{opcodes, defined_label, no_label_twice, begins_well, labels_of}
 use Rattle.erjang_top.specs.first_path.Slots.{WellSlotted}
 use Rattle.beam_code.specs.Code.{module_code}
 use Rattle.beam_code.specs.Labels.{KeepsLabelRules}

@@ -1,6 +1,6 @@
 -- An accepted module keeps the label rules of a module that names no labels.
-use Rattle.std.proofs.Common.{◌≡◌, Bool, true, false, not, nat_le, ◌&&◌, List, [], ◌∷◌, None, refl, sym, ap, ◌∙◌}
-use Rattle.std.specs.Prelude.{is_some, nat_lt, length}
+use Rattle.std.proofs.Common.{◌≡◌, true, nat_le, ◌&&◌, List, [], ◌∷◌, refl}
+use Rattle.std.specs.Prelude.{nat_lt, length}
 use Rattle.std.specs.List.{list_all}
 use Rattle.std.proofs.lemmas.Bool.{and_parts}
 use Rattle.beam_code.specs.declared.module.Function.{Function}

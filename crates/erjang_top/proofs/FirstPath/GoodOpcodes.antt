@@ -1,9 +1,9 @@
 -- The instruction of operands that fit their row, and whose names and integers are in range, has names and numbers in range.
-use Rattle.std.proofs.Common.{◌≡◌, ℕ, pos, negsuc, Bool, true, false, nat_eq, nat_le, ◌&&◌, List, [], ◌∷◌, Option, None, Some, IfSome, refl}
+use Rattle.std.proofs.Common.{◌≡◌, ℕ, true, nat_le, ◌&&◌, List, [], ◌∷◌, Option, None, Some, IfSome, refl}
 use Rattle.std.specs.Bool.{⊤}
-use Rattle.std.specs.Prelude.{if◌then◌else◌, option_map, option_and_then}
+use Rattle.std.specs.Prelude.{option_map, option_and_then}
 use Rattle.std.specs.List.{AllByRecursion}
-use Rattle.std.proofs.lemmas.Bool.{and_parts, true≢false}
+use Rattle.std.proofs.lemmas.Bool.{and_parts}
 use Rattle.genop_table.specs.declared.tests.TestArguments.{TestArguments}
 use Rattle.genop_table.specs.declared.tests.TestArguments.TheVariants.{OneSource, TwoSources, SourceAndSize, SourceSizeAndTag}
 use Rattle.genop_table.specs.Instructions.{Instruction, instructions, row_of}
@@ -17,7 +17,7 @@ use Rattle.beam_code.specs.declared.operand.Src.{Src}
 use Rattle.beam_code.specs.declared.operand.Src.TheVariants as source
 use Rattle.beam_code.specs.declared.operand.TheConstants.{LAST_COUNT}
 use Rattle.beam_code.specs.Decoded as d
-use Rattle.beam_code.specs.Fits.{fits, fits_found, fits_places, is_atom, is_register, is_source}
+use Rattle.beam_code.specs.Fits.{fits, fits_found, fits_places, is_register, is_source}
 use Rattle.beam_code.specs.Opcode as o
 use Rattle.beam_code.proofs.Known.{holds_of_found}
 use Rattle.erjang_top.specs.first_path.Accepted.{is_atom_name}

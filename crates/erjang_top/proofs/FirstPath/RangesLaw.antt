@@ -1,13 +1,10 @@
 -- Of a module that is read from a text all names and numbers are in range.
-use Rattle.std.proofs.Common.{◌≡◌, ℕ, ℤ, pos, negsuc, Bool, true, false, ◌&&◌, nat_eq, nat_lt, nat_le, List, [], ◌∷◌, map, length, Option, None, Some, unwrap_or, IfSome, Result, Ok, IfOk, refl, sym, ap, ap₂, ◌∙◌, subst, arith}
+use Rattle.std.proofs.Common.{◌≡◌, ℕ, ℤ, pos, negsuc, true, false, ◌&&◌, nat_lt, nat_le, List, [], ◌∷◌, map, length, Option, None, Some, unwrap_or, IfSome, Result, IfOk, refl, ap, ap₂, ◌∙◌, subst, arith}
 use Rattle.std.specs.List.{list_all}
-use Rattle.std.proofs.lemmas.Bool.{and_parts, and_from, lt-ltb}
+use Rattle.std.proofs.lemmas.Bool.{and_from, lt-ltb}
 use Rattle.beam_code.specs.declared.instr.Instr.{Instr}
 use Rattle.beam_code.specs.declared.module.Function.{Function}
 use Rattle.beam_code.specs.declared.module.Module.{Module}
-use Rattle.beam_code.specs.declared.operand.Operand.{Operand}
-use Rattle.beam_code.specs.declared.operand.Operand.TheVariants as operand
-use Rattle.beam_code.specs.declared.operand.Src.{Src}
 use Rattle.beam_code.specs.declared.operand.Src.TheVariants as source
 use Rattle.beam_code.specs.declared.operand.Reg.TheVariants as register
 use Rattle.erjang_top.specs.first_path.Accepted.{is_atom_name, is_integer, is_count, is_thin_source, is_thin_opcode, is_thin_function, is_thin_module}
@@ -19,14 +16,11 @@ use Rattle.erjang_top.specs.first_path.Opcode.{opcode, thin, X, Of, Integer, Ato
 use Rattle.beam_code.specs.Parts.{parts_of, function_parts, module_parts, ModuleParts}
 use Rattle.erjang_top.proofs.FirstPath.AcceptedRules.{module_known}
 use Rattle.erjang_top.proofs.FirstPath.GoodOpcodes.{GoodOpcode, decoded-good}
-use Rattle.asm_terms.specs.Numbers.{has_64_bits}
 use Rattle.asm_module.specs.Terms.{is_word}
-use Rattle.asm_module.specs.Modules.{reading}
 use Rattle.asm_module.specs.declared.fault.FormFault.{FormFault}
 use Rattle.erjang_top.specs.first_path.Ranges.{knows, Ranges, Compiles}
-use Rattle.erjang_top.specs.Sources.{Reads}
 use Rattle.erjang_top.proofs.GoodTerms.{forms-good}
-use Rattle.erjang_top.proofs.GoodReading.{Name, Bits, GoodSrc, EachOperand, EachInstruction, GoodFunction, EachFunction, GoodParts, reading-good}
+use Rattle.erjang_top.proofs.GoodReading.{Bits, EachOperand, EachInstruction, GoodFunction, EachFunction, GoodParts, reading-good}
 
 -- ---- instructions
 
