@@ -44,8 +44,8 @@ abbrev pub is_free : Written → Bool
 is_free w = (is_word w.name (codes "line") || is_word w.name (codes "%")) && nat_eq (length (terms_of w)) 1
 
 -- an opaque token, a pid or a reference is anywhere in an instruction that may not have one
-unfoldable pub is_strange : AsmTerm → Written → Bool
-is_strange t w = holds_foreign t && not (is_free w)
+unfoldable pub has_foreign : AsmTerm → Written → Bool
+has_foreign t w = holds_foreign t && not (is_free w)
 
 unfoldable pub test_number : List ℕ → Option ℕ
 test_number name = number_of (encode_utf8_all name) 0 test_entries
@@ -96,8 +96,8 @@ abbrev pub unless : Bool → List ℕ → Option (List ℕ)
 unless known name = if known then None else Some name
 
 -- the name of what is no test, or no guard builtin of that arity
-unfoldable pub stranger : Genop → List AsmTerm → Option (List ℕ)
-stranger genop terms = option_and_then (λ name. unless (is_known_in genop terms name) name) (named terms)
+unfoldable pub unknown_name : Genop → List AsmTerm → Option (List ℕ)
+unknown_name genop terms = option_and_then (λ name. unless (is_known_in genop terms name) name) (named terms)
 
 -- `raise` under `bif` and `has_map_fields` under `test` have rows of their own
 abbrev pub row_with : Genop → Row → List ℕ → Option Row
@@ -147,25 +147,25 @@ or_bad func index None = Err (BadInstruction func index)
 or_bad func index (Some i) = Ok i
 
 -- a name that is none of the tests or guard builtins
-abbrev pub or_stranger : ℕ → ℕ → Row → Written → Option (List ℕ) → Result Instruction FormFault
-or_stranger func index row w (Some name) = Err (OutsideProfile func index name)
-or_stranger func index row w None = or_bad func index (option_and_then (λ r. instruction_of r w) (row_of row (terms_of w)))
+abbrev pub or_unknown_name : ℕ → ℕ → Row → Written → Option (List ℕ) → Result Instruction FormFault
+or_unknown_name func index row w (Some name) = Err (OutsideProfile func index name)
+or_unknown_name func index row w None = or_bad func index (option_and_then (λ r. instruction_of r w) (row_of row (terms_of w)))
 
 -- an opaque token, a pid or a reference
-abbrev pub or_strange : ℕ → ℕ → Row → AsmTerm → Written → Result Instruction FormFault
-or_strange func index row t w =
-    if is_strange t w then Err (OutsideProfile func index w.name)
-    else or_stranger func index row w (stranger row.genop (terms_of w))
+abbrev pub or_foreign : ℕ → ℕ → Row → AsmTerm → Written → Result Instruction FormFault
+or_foreign func index row t w =
+    if has_foreign t w then Err (OutsideProfile func index w.name)
+    else or_unknown_name func index row w (unknown_name row.genop (terms_of w))
 
 -- a name that no row has
-abbrev pub or_unknown : ℕ → ℕ → AsmTerm → Written → Option Row → Result Instruction FormFault
-or_unknown func index t w None = Err (OutsideProfile func index w.name)
-or_unknown func index t w (Some row) = or_strange func index row t w
+abbrev pub or_no_row : ℕ → ℕ → AsmTerm → Written → Option Row → Result Instruction FormFault
+or_no_row func index t w None = Err (OutsideProfile func index w.name)
+or_no_row func index t w (Some row) = or_foreign func index row t w
 
 -- a form that is neither an atom nor a tuple that begins with one
 abbrev pub or_nameless : ℕ → ℕ → AsmTerm → Option Written → Result Instruction FormFault
 or_nameless func index t None = Err (BadInstruction func index)
-or_nameless func index t (Some w) = or_unknown func index t w (row_named w.name)
+or_nameless func index t (Some w) = or_no_row func index t w (row_named w.name)
 
 -- the instruction of a form, or the first case by which it is refused; function and index are told in the fault
 abbrev pub instruction : ℕ → ℕ → AsmTerm → Result Instruction FormFault

@@ -3,5 +3,7 @@ pub mod Elements
 pub mod Operands
 pub mod Instructions
 pub mod Modules
+pub mod Ranges
 pub mod Joined
 pub mod Seen
+pub mod Messages

@@ -201,3 +201,9 @@ Stands forms m = reading forms ≡ Ok (module_parts m)
 -- the forms are no module's, and this is the first fault in them
 abbrev pub FirstFault : List AsmTerm → FormFault → Type 0
 FirstFault forms fault = reading forms ≡ Err fault
+
+-- the forms are those of one module at most, or have one first fault, and not both
+pub record OneModule (forms : List AsmTerm) : Type 0 where
+  pub same_module : (m n : Module) → Stands forms m → Stands forms n → m ≡ n
+  pub same_fault : (fault other : FormFault) → FirstFault forms fault → FirstFault forms other → fault ≡ other
+  pub not_both : (m : Module) (fault : FormFault) → Stands forms m → FirstFault forms fault → ⊥

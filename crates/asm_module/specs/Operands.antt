@@ -111,23 +111,10 @@ sources_of limit.OfRaise number t = option_and_then (each source_of) (elements t
 sources_of _ number t = option_and_then (each source_of) (listed t)
 
 -- elements two by two
-abbrev pub two_by_two : {X : Type 0} → (AsmTerm → AsmTerm → Option X) → List AsmTerm → Option (List X)
-two_by_two read [] = Some []
-two_by_two read (a ∷ []) = None
-two_by_two read (a ∷ b ∷ rest) = option_and_then (λ x. option_map (λ xs. x ∷ xs) (two_by_two read rest)) (read a b)
-
--- a value of `select_val`, a size of `select_tuple_arity`, with a label; a key with a value, or with a register
-unfoldable pub case_of : AsmTerm → AsmTerm → Option (Src × ℕ)
-case_of a b = option_zip (source_of a) (label_of b)
-
-unfoldable pub arity_of : AsmTerm → AsmTerm → Option (Src × ℕ)
-arity_of a b = option_zip (size_of a) (label_of b)
-
-unfoldable pub pair_of : AsmTerm → AsmTerm → Option (Src × Src)
-pair_of a b = option_zip (source_of a) (source_of b)
-
-unfoldable pub get_of : AsmTerm → AsmTerm → Option (Src × Reg)
-get_of a b = option_zip (source_of a) (register_of b)
+abbrev pub two_by_two : {A B : Type 0} → (AsmTerm → Option A) → (AsmTerm → Option B) → List AsmTerm → Option (List (A × B))
+two_by_two first second [] = Some []
+two_by_two first second (a ∷ []) = None
+two_by_two first second (a ∷ b ∷ rest) = option_and_then (λ x. option_map (λ xs. x ∷ xs) (two_by_two first second rest)) (option_zip (first a) (second b))
 
 -- The operand at a place; the number is that of the test or builtin that the form names, where it names one.
 abbrev pub operand_of : Limit → ℕ → Part → AsmTerm → Option Operand
@@ -138,10 +125,10 @@ operand_of l number part.Count t = option_map operand.Count (count_of t)
 operand_of l number part.Name t = Some (operand.Name number)
 operand_of l number part.Ext t = external_of t
 operand_of l number part.Srcs t = option_map operand.Srcs (sources_of l number t)
-operand_of l number part.Cases t = option_map operand.Cases (option_and_then (two_by_two case_of) (listed t))
-operand_of l number part.Arities t = option_map operand.Cases (option_and_then (two_by_two arity_of) (listed t))
-operand_of l number part.Pairs t = option_map operand.Pairs (option_and_then (two_by_two pair_of) (listed t))
-operand_of l number part.Gets t = option_map operand.Gets (option_and_then (two_by_two get_of) (listed t))
+operand_of l number part.Cases t = option_map operand.Cases (option_and_then (two_by_two source_of label_of) (listed t))
+operand_of l number part.Arities t = option_map operand.Cases (option_and_then (two_by_two size_of label_of) (listed t))
+operand_of l number part.Pairs t = option_map operand.Pairs (option_and_then (two_by_two source_of source_of) (listed t))
+operand_of l number part.Gets t = option_map operand.Gets (option_and_then (two_by_two source_of register_of) (listed t))
 operand_of l number part.Regs t = option_map operand.Regs (option_and_then (each register_of) (listed t))
 operand_of l number _ t = None
 

@@ -4,16 +4,18 @@ ghost use Rattle.std.specs.Prelude.{◌≡◌, List, [], map, Result, Ok, Option
 ghost use Rattle.beam_code.specs.Keys.{Key as NameAndArity, is_among};
 ghost use Rattle.asm_module.specs.Terms.{each};
 ghost use Rattle.asm_module.specs.Modules as spec;
-ghost use Rattle.asm_module.specs.Seen.{Gives, header_seen, headed_seen, key_seen, is_held};
+ghost use Rattle.asm_module.specs.Seen.{Gives, Reads, ReadsAs, header_seen, headed_seen, key_seen, is_held};
 
 use crate::FormFault;
 use crate::functions::Key;
-use crate::terms::{atom, behind, elements, is_word, number, pair, tuple};
+use crate::lists::elements_in;
+use crate::part_fault::PartFault;
+use crate::terms::{atom, behind, is_word, number, pair, tuple};
 use beam_code::LAST_COUNT;
 use ej_term::{AsmTerm, Text};
 use indexmap::IndexSet;
 use sqlite_items::Items;
-use std::alloc::{AllocError, Global};
+use std::alloc::Global;
 
 /// What came of the header's forms `{exports,L}`, `{attributes,_}` and `{labels,N}`.
 #[derive(Drop)]
@@ -60,34 +62,29 @@ fn has_function(functions: &IndexSet<Key<'_>>, key: &Key<'_>) -> bool
 
 /// `{F,A}`, where it is one of the functions.
 #[tactic(auto, unfolding(crate::specs::Modules::export))]
-fn export(functions: &IndexSet<Key<'_>>, term: &AsmTerm) -> Result<Option<(Text, u8)>, AllocError>
-    ensures { IfOk result (λ found. found ≡ spec.export (is_held functions.now.keys) term.now) }
+fn export(functions: &IndexSet<Key<'_>>, term: &AsmTerm) -> Result<(Text, u8), PartFault>
+    ensures { Reads result (spec.export (is_held functions.now.keys) term.now) }
 {
-    let Some(key) = export_key(term) else {
-        return Ok(None);
-    };
+    let key = export_key(term).ok_or(PartFault::Shape)?;
     if !has_function(functions, &key) {
-        return Ok(None);
+        return Err(PartFault::Shape);
     }
     let (name, arity) = key;
-    Ok(Some((name.clone()?, arity)))
+    Ok((name.clone()?, arity))
 }
 
 fn all_exports(
     alloc: Global,
     functions: &IndexSet<Key<'_>>,
     terms: &[AsmTerm],
-) -> Result<Option<Items<(Text, u8)>>, AllocError>
-    ensures { IfOk result (λ found. found ≡ each (spec.export (is_held functions.now.keys)) terms.now) }
+) -> Result<Items<(Text, u8)>, PartFault>
+    ensures { Reads result (each (spec.export (is_held functions.now.keys)) terms.now) }
 {
     let mut exports = Items::new(alloc);
     for term in terms {
-        let Some(export) = export(functions, term)? else {
-            return Ok(None);
-        };
-        exports.push(export)?;
+        exports.push(export(functions, term)?)?;
     }
-    Ok(Some(exports))
+    Ok(exports)
 }
 
 /// The exports, each one of the functions.
@@ -96,13 +93,11 @@ fn exports(
     alloc: Global,
     functions: &IndexSet<Key<'_>>,
     term: &AsmTerm,
-) -> Result<Option<Items<(Text, u8)>>, AllocError>
-    ensures { IfOk result (λ found. found ≡ spec.exports_of (is_held functions.now.keys) term.now) }
+) -> Result<Items<(Text, u8)>, PartFault>
+    ensures { Reads result (spec.exports_of (is_held functions.now.keys) term.now) }
 {
-    match elements(alloc, term)? {
-        Some(terms) => all_exports(alloc, functions, terms.as_slice()),
-        None => Ok(None),
-    }
+    let terms = elements_in(alloc, term)?;
+    all_exports(alloc, functions, terms.as_slice())
 }
 
 impl Header {
@@ -111,20 +106,17 @@ impl Header {
         alloc: Global,
         functions: &IndexSet<Key<'_>>,
         term: &AsmTerm,
-    ) -> Result<Option<Header>, AllocError>
-        ensures { IfOk result (λ next. option_map header_seen next ≡ spec.with_exports (is_held functions.now.keys) (header_seen self) term.now) }
+    ) -> Result<Header, PartFault>
+        ensures { ReadsAs header_seen result (spec.with_exports (is_held functions.now.keys) (header_seen self) term.now) }
     {
         if self.exports.is_some() {
-            return Ok(None);
+            return Err(PartFault::Shape);
         }
-        match exports(alloc, functions, term)? {
-            Some(exports) => Ok(Some(Header {
-                exports: Some(exports),
-                attributes: self.attributes,
-                labels: self.labels,
-            })),
-            None => Ok(None),
-        }
+        Ok(Header {
+            exports: Some(exports(alloc, functions, term)?),
+            attributes: self.attributes,
+            labels: self.labels,
+        })
     }
 
     fn with_attributes(self) -> Option<Header>
@@ -163,19 +155,19 @@ impl Header {
         functions: &IndexSet<Key<'_>>,
         word: &Text,
         term: &AsmTerm,
-    ) -> Result<Option<Header>, AllocError>
-        ensures { IfOk result (λ next. option_map header_seen next ≡ spec.header_pair (is_held functions.now.keys) (header_seen self) (word.now, term.now)) }
+    ) -> Result<Header, PartFault>
+        ensures { ReadsAs header_seen result (spec.header_pair (is_held functions.now.keys) (header_seen self) (word.now, term.now)) }
     {
         if is_word(word, "exports") {
             return self.with_exports(alloc, functions, term);
         }
         if is_word(word, "attributes") {
-            return Ok(self.with_attributes());
+            return self.with_attributes().ok_or(PartFault::Shape);
         }
         if is_word(word, "labels") {
-            return Ok(self.with_labels(term));
+            return self.with_labels(term).ok_or(PartFault::Shape);
         }
-        Ok(None)
+        Err(PartFault::Shape)
     }
 
     /// The header with a form that did not come yet.
@@ -185,13 +177,11 @@ impl Header {
         alloc: Global,
         functions: &IndexSet<Key<'_>>,
         term: &AsmTerm,
-    ) -> Result<Option<Header>, AllocError>
-        ensures { IfOk result (λ next. option_map header_seen next ≡ spec.header_form (is_held functions.now.keys) (header_seen self) term.now) }
+    ) -> Result<Header, PartFault>
+        ensures { ReadsAs header_seen result (spec.header_form (is_held functions.now.keys) (header_seen self) term.now) }
     {
-        match pair(term) {
-            Some((word, part)) => self.with_pair(alloc, functions, word, part),
-            None => Ok(None),
-        }
+        let (word, part) = pair(term).ok_or(PartFault::Shape)?;
+        self.with_pair(alloc, functions, word, part)
     }
 }
 
@@ -227,8 +217,9 @@ fn next_form<'a>(
     let Some((first, rest)) = forms.split_first() else {
         return Err(FormFault::BadForm { form });
     };
-    match header.with_form(alloc, functions, first)? {
-        Some(header) => Ok((header, rest)),
-        None => Err(FormFault::BadForm { form }),
+    match header.with_form(alloc, functions, first) {
+        Ok(header) => Ok((header, rest)),
+        Err(PartFault::Shape) => Err(FormFault::BadForm { form }),
+        Err(PartFault::NoMemory) => Err(FormFault::NoMemory),
     }
 }

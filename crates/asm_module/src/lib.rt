@@ -9,13 +9,15 @@ mod fault;
 mod functions;
 mod header;
 mod instruction;
+mod laws;
 mod lists;
 mod module;
 mod names;
 mod operands;
+mod part_fault;
+mod sources;
 mod terms;
-#[cfg(test)]
-mod tests;
 
 pub use fault::FormFault;
+pub use laws::read_modules_are_one_and_in_range;
 pub use module::module_of;

@@ -62,9 +62,9 @@ fn is_free(written: &Written<'_>) -> bool
 }
 
 /// Whether an opaque token, a pid or a reference is anywhere in an instruction that may not have one.
-#[tactic(auto, unfolding(crate::specs::Instructions::is_strange))]
-pub(crate) fn is_strange(term: &AsmTerm, written: &Written<'_>) -> bool
-    ensures { result ≡ spec.is_strange term.now (written_seen written.now) }
+#[tactic(auto, unfolding(crate::specs::Instructions::has_foreign))]
+pub(crate) fn has_foreign(term: &AsmTerm, written: &Written<'_>) -> bool
+    ensures { result ≡ spec.has_foreign term.now (written_seen written.now) }
 {
     holds_foreign(term) && !is_free(written)
 }
@@ -177,9 +177,9 @@ fn is_known_in(genop: Genop, terms: &[AsmTerm], name: &Text) -> bool
 }
 
 /// The name of what is no test, or no guard builtin of that arity.
-#[tactic(auto, unfolding(crate::specs::Instructions::stranger))]
-pub(crate) fn stranger(genop: Genop, terms: &[AsmTerm]) -> Option<&Text>
-    ensures { option_map (λ name. name.now) result ≡ spec.stranger genop terms.now }
+#[tactic(auto, unfolding(crate::specs::Instructions::unknown_name))]
+pub(crate) fn unknown_name(genop: Genop, terms: &[AsmTerm]) -> Option<&Text>
+    ensures { option_map (λ name. name.now) result ≡ spec.unknown_name genop terms.now }
 {
     let name = named(terms)?;
     if is_known_in(genop, terms, name) {

@@ -11,6 +11,7 @@ pub mod Splitting
 pub mod Reading
 pub mod Grammar
 pub mod Forms
+pub mod Messages
 pub mod Stack
 pub mod TermReader
 pub mod FormRead

@@ -22,8 +22,6 @@ mod spelling;
 mod stack;
 mod term_reader;
 mod terms;
-#[cfg(test)]
-mod tests;
 mod token;
 mod worked;
 

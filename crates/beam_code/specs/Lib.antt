@@ -9,3 +9,4 @@ pub mod Code
 pub mod Labels
 pub mod LabelLaw
 pub mod Worked
+pub mod Places

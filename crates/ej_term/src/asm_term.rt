@@ -247,7 +247,14 @@ mod tests {
         Ok(parts)
     }
 
-    // a term of each kind, no two of them the same
+    // a map of one pair
+    fn map(alloc: Global, key: i64, value: i64) -> Result<AsmTerm, AllocError> {
+        let mut pairs = Items::new(alloc);
+        pairs.push((AsmTerm::Int(key), AsmTerm::Int(value)))?;
+        Ok(AsmTerm::Map(pairs))
+    }
+
+    // a term of each kind, and more that differ in one place, no two of them the same
     fn kinds(alloc: Global) -> Result<Items<AsmTerm>, AllocError> {
         let mut terms = one(alloc)?;
         terms.push(AsmTerm::Atom(Text::make(alloc, "a")?))?;
@@ -262,6 +269,11 @@ mod tests {
         terms.push(AsmTerm::Pid(0, 1))?;
         terms.push(AsmTerm::Ref(0, 1))?;
         terms.push(AsmTerm::Opaque(Text::make(alloc, "a")?))?;
+        for (key, value) in [(1, 2), (1, 3), (2, 2)] {
+            terms.push(map(alloc, key, value)?)?;
+        }
+        terms.push(AsmTerm::Tuple(Items::new(alloc)))?;
+        terms.push(AsmTerm::Map(Items::new(alloc)))?;
         Ok(terms)
     }
 

@@ -144,7 +144,8 @@ fn is_builtin(alloc: Global, row: &str, pure: bool) -> Result<bool, AllocError> 
         return Ok(false);
     };
     let shown = format!(in alloc; "{builtin:?}")?;
-    Ok(shown.as_str() == name && builtin.takes(arity) == pure)
+    let takes = builtin.takes(arity) == pure && !builtin.takes(usize::wrapping_add(arity, 1));
+    Ok(shown.as_str() == name && takes)
 }
 
 /// Whether the test of a row's number is its own, and of so many terms.
@@ -154,7 +155,8 @@ fn is_test(alloc: Global, row: &str) -> Result<bool, AllocError> {
         return Ok(false);
     };
     let shown = format!(in alloc; "{test:?}")?;
-    Ok(shown.as_str() == name && test.takes(arity))
+    let takes = test.takes(arity) && !test.takes(usize::wrapping_add(arity, 1));
+    Ok(shown.as_str() == name && takes)
 }
 
 #[test]

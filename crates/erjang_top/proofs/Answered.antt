@@ -6,11 +6,11 @@ use Rattle.ej_outside.specs.Sink.{SinkState}
 use Rattle.beam_code.specs.declared.module.Module.{Module}
 use Rattle.erjang_top.specs.declared.fault.Fault.{Fault}
 use Rattle.erjang_top.specs.declared.fault.Fault.TheVariants as fault
-use Rattle.erjang_top.specs.Answers.{Refusal, First, Refused, Unchanged, Compiled, PutFailed, Told, SameCounts, TookAll, TookFront, Quiet, status_of, message, cause_text, longest_file, Answers}
+use Rattle.erjang_top.specs.Answers.{Refusal, Absent, Longer, OfSource, First, Refused, Unchanged, Compiled, PutFailed, Told, SameCounts, TookAll, TookFront, Quiet, status_of, message, cause_text, longest_file, Answers}
 use Rattle.erjang_top.specs.Sources.{IsSource}
 use Rattle.erjang_top.specs.Words.{Compile}
 use Rattle.erjang_top.proofs.OneFirst.{one_first}
-use Rattle.erjang_top.specs.Work.{Works, Reports, refusal_of}
+use Rattle.erjang_top.specs.Work.{Works, Reports}
 
 -- a count that rose is not quiet
 not_quiet : {G : Type 0} (old new : ℕ) → Rises old new → Quiet old new → G
@@ -121,8 +121,13 @@ answer_no_memory w status old new err err' s p q = record {
 pub answer : (w : Compile) (outcome : Result (Unit {0}) Fault) (status : ℕ) (old new : ShelfState) (err err' : SinkState)
     → Works w old outcome new → Reports w.file outcome status err err' → Answers w status old new err err'
 answer w (Ok done) status old new err err' p q = answer_done w status old new err err' q.0 p q.1
-answer w (Err (fault.Refused cause)) status old new err err' p (inl said) = answer_refused w (refusal_of cause) status old new err err' said.0 p said.1
-answer w (Err (fault.Refused cause)) status old new err err' p (inr cut) = answer_write_failed w status old new err err' cut.0 (inl (refusal_of cause, p, cut.1))
+answer w (Err fault.Absent) status old new err err' p (inl said) = answer_refused w Absent status old new err err' said.0 p said.1
+answer w (Err fault.Absent) status old new err err' p (inr cut) = answer_write_failed w status old new err err' cut.0 (inl (Absent, p, cut.1))
+answer w (Err fault.Longer) status old new err err' p (inl said) = answer_refused w Longer status old new err err' said.0 p said.1
+answer w (Err fault.Longer) status old new err err' p (inr cut) = answer_write_failed w status old new err err' cut.0 (inl (Longer, p, cut.1))
+answer w (Err (fault.Refused cause)) status old new err err' p (inl (inl said)) = answer_refused w (OfSource cause) status old new err err' said.0 p said.1
+answer w (Err (fault.Refused cause)) status old new err err' p (inl (inr cut)) = answer_write_failed w status old new err err' cut.0 (inl (OfSource cause, p, cut.1))
+answer w (Err (fault.Refused cause)) status old new err err' p (inr none) = answer_no_memory w status old new err err' none.0 p.counted none.1
 answer w (Err fault.ReadFailed) status old new err err' p (inl said) = answer_read_failed w status old new err err' said.0 p said.1
 answer w (Err fault.ReadFailed) status old new err err' p (inr cut) = answer_write_failed w status old new err err' cut.0 (inr (inl (p, cut.1)))
 answer w (Err fault.PutFailed) status old new err err' p q = answer_write_failed w status old new err err' q.0 (inr (inr (p, q.1)))

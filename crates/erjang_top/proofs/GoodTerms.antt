@@ -1,6 +1,5 @@
 -- The terms that a text's forms are made of have names and integers in range.
 use Rattle.std.proofs.Common.{◌≡◌, ℕ, ℤ, Bool, true, false, nat_lt, nat_le, List, [], ◌∷◌, map, length, Option, Some, None, if◌then◌else◌, refl, sym, ap, ◌∙◌, arith}
-use Rattle.std.specs.Bool.{⊤}
 use Rattle.std.specs.List.{list_all}
 use Rattle.std.specs.Str.{all_scalars, chars, is_utf8}
 use Rattle.std.proofs.lemmas.Bool.{and_parts, and_from, ltb-true}
@@ -15,36 +14,14 @@ use Rattle.asm_terms.specs.Forms.{AreFormsOf, AreForms}
 use Rattle.asm_terms.specs.Numbers.{has_64_bits}
 use Rattle.asm_terms.specs.declared.token.Token.{Token}
 use Rattle.asm_terms.specs.Grammar.{IsTerm, int, atom, string, «opaque», pid, reference, external, empty_tuple, filled_tuple, empty_list, filled_list, empty_map, filled_map, AreMoreParts, no_part, part, AreMoreElements, no_element, element, bar, AreMorePairs, no_pair, pair}
-use Rattle.erjang_top.specs.first_path.Accepted.{is_atom_name}
+use Rattle.asm_module.specs.Ranges.{is_atom_name, good_step, good, Good, EachGood}
 use Rattle.term_text.proofs.GoodTokens.{AllGood, AreScalars, form-left}
-
--- in a term's parts but those of its lists and maps, once it is known of its parts
-abbrev pub good_step : AsmTerm-F Bool → Bool
-good_step (o.Int n) = has_64_bits n
-good_step (o.Atom name) = is_atom_name name
-good_step (o.Tuple parts) = list_all (λ part. part) parts
-good_step _ = true
-
-abbrev pub good : AsmTerm → Bool
-good = fold-AsmTerm Bool good_step
-
--- each name and integer of a term that is in no list and no map is in range
-abbrev pub Good : AsmTerm → Type 0
-Good t = good t ≡ true
-
-abbrev pub EachGood : List AsmTerm → Type 0
-EachGood [] = ⊤
-EachGood (t ∷ ts) = Good t × EachGood ts
 
 -- ---- terms by their kinds
 
 all-parts : (ts : List AsmTerm) → EachGood ts → list_all (λ part. part) (map good ts) ≡ true
 all-parts [] h = refl
 all-parts (t ∷ ts) h = and_from (good t) (list_all (λ part. part) (map good ts)) h.0 (all-parts ts h.1)
-
-pub parts-all : (ts : List AsmTerm) → list_all (λ part. part) (map good ts) ≡ true → EachGood ts
-parts-all [] h = tt
-parts-all (t ∷ ts) h = let p = and_parts (good t) (list_all (λ part. part) (map good ts)) h in (p.0, parts-all ts p.1)
 
 good-Int : (n : ℤ) → has_64_bits n ≡ true → Good (v.Int n)
 good-Int n h = ap good (sym (v.rolls-Int n)) ∙ fold-roll-AsmTerm Bool good_step (o.Int n) ∙ h

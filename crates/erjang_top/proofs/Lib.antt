@@ -5,5 +5,4 @@ pub mod Reading
 pub mod OneSource
 pub mod OneFirst
 pub mod GoodTerms
-pub mod GoodReading
 pub mod FirstPath

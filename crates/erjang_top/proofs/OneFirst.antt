@@ -1,100 +1,129 @@
 -- A source has one first refusal, or none.
-use Rattle.std.proofs.Common.{◌≡◌, ℕ, ◌<◌, ◌≤◌, ◌⊎◌, inl, inr, List, length, Option, None, Some, IsSomeAnd, refl, sym, ap, ◌∙◌, subst, arith}
+use Rattle.std.proofs.Common.{◌≡◌, ℕ, ◌<◌, ◌≤◌, ◌⊎◌, inl, inr, List, length, Option, None, Some, IsSomeAnd, refl, sym, ap, ap₂, ◌∙◌, subst, arith}
 use Rattle.std.specs.FinMap as files
-use Rattle.asm_terms.specs.Forms.{FirstFault, Cause}
+use Rattle.asm_terms.specs.Forms.{AreForms, FirstFault, Cause}
 use Rattle.asm_terms.specs.Forms as text
-use Rattle.asm_module.specs.declared.fault.FormFault.{FormFault}
-use Rattle.asm_module.specs.declared.fault.FormFault.TheVariants as forms
+use Rattle.asm_terms.specs.declared.fault.TextFault.{TextFault}
+use Rattle.asm_terms.specs.declared.fault.TextFault.TheVariants as text_fault
+use Rattle.ej_term.specs.declared.asm_term.AsmTerm.{AsmTerm}
+use Rattle.label_check.specs.declared.fault.LabelFault.{LabelFault}
+use Rattle.label_check.specs.declared.fault.LabelFault.TheVariants as label_fault
+use Rattle.label_check.specs.Told.{break_of}
 use Rattle.beam_code.specs.declared.module.Module.{Module}
-use Rattle.erjang_top.specs.first_path.Accepted.{Accepted}
 use Rattle.beam_code.specs.Labels as labels
 use Rattle.beam_code.specs.Labels.{Break}
 use Rattle.ej_outside.specs.Shelf.{Files}
-use Rattle.erjang_top.specs.Answers.{Refusal, Absent, Longer, BadText, TooDeep, BadForm, OutsideProfile, BadInstruction, Twice, Missing, BadEntry, BadArity, NotBuilt, First, longest_file}
-use Rattle.erjang_top.specs.Sources.{Reads, IsSource, HasFormFault, HasBreak}
+use Rattle.erjang_top.specs.declared.fault.SourceFault.{SourceFault}
+use Rattle.erjang_top.specs.declared.fault.SourceFault.TheVariants.{Text, Form, Label, NotBuilt}
+use Rattle.erjang_top.specs.first_path.Accepted.{Accepted}
+use Rattle.erjang_top.specs.Answers.{Refusal, Absent, Longer, OfSource, First, longest_file}
+use Rattle.erjang_top.specs.Sources.{IsSource, HasBreak, HasTextFault, HasCause}
 use Rattle.erjang_top.specs.Words.{Compile}
 use Rattle.erjang_top.proofs.Reading.{reads_wholly, same_fault}
 use Rattle.erjang_top.proofs.OneSource.{one_module, one_form_fault, one_break, fault_or_break, fault_or_module, break_or_module}
 
--- what is first wrong with a file, by the reader that tells it
+-- what is first wrong with a file, if anything
 data Verdict : Type 0 where
   NotHeld : Verdict
   TooLong : Verdict
-  OfText : (form : ℕ) (cause : Cause) → Verdict
-  OfForms : (fault : FormFault) → Verdict
-  OfLabels : (broken : Break) → Verdict
-  Other : Verdict
+  Bad : (fault : SourceFault) → Verdict
   Good : Verdict
-
-abbrev text_refusal : ℕ → Cause → Refusal
-text_refusal form text.BadText = BadText form
-text_refusal form text.TooDeep = TooDeep form
-
--- a want of memory is no fault of forms
-abbrev forms_refusal : FormFault → Refusal
-forms_refusal (forms.BadForm form) = BadForm form
-forms_refusal (forms.OutsideProfile func index name) = OutsideProfile func index name
-forms_refusal (forms.BadInstruction func index) = BadInstruction func index
-forms_refusal forms.NoMemory = NotBuilt
-
-abbrev labels_refusal : Break → Refusal
-labels_refusal (labels.Twice label) = Twice label
-labels_refusal (labels.Missing func index label) = Missing func index label
-labels_refusal (labels.BadEntry func) = BadEntry func
-labels_refusal (labels.BadArity func index) = BadArity func index
 
 -- the refusal of a verdict
 abbrev refusal_in : Verdict → Option Refusal
 refusal_in NotHeld = Some Absent
 refusal_in TooLong = Some Longer
-refusal_in (OfText form cause) = Some (text_refusal form cause)
-refusal_in (OfForms fault) = Some (forms_refusal fault)
-refusal_in (OfLabels broken) = Some (labels_refusal broken)
-refusal_in Other = Some NotBuilt
+refusal_in (Bad fault) = Some (OfSource fault)
 refusal_in Good = None
 
 -- a verdict's cause in bytes that are not too many
 abbrev CauseIn : List ℕ → Verdict → Type 0
 CauseIn bytes NotHeld = ⊥
 CauseIn bytes TooLong = ⊥
-CauseIn bytes (OfText form cause) = FirstFault bytes form cause
-CauseIn bytes (OfForms fault) = HasFormFault bytes fault
-CauseIn bytes (OfLabels broken) = HasBreak bytes broken
-CauseIn bytes Other = (m : Module) × Reads bytes m × (Accepted m → ⊥)
+CauseIn bytes (Bad fault) = HasCause bytes fault
 CauseIn bytes Good = (m : Module) × IsSource bytes m
 
-no_module : {G : Type 0} (bytes : List ℕ) (form : ℕ) (cause : Cause) (m : Module) → FirstFault bytes form cause → Reads bytes m → G
-no_module bytes form cause m fault reads = absurd (reads_wholly bytes reads.forms form cause reads.are_forms fault)
+-- the fault of a text at a form, and that of a break
+abbrev text_fault_of : ℕ → Cause → TextFault
+text_fault_of form text.BadText = text_fault.BadText form
+text_fault_of form text.TooDeep = text_fault.TooDeep form
+
+abbrev label_fault_of : Break → LabelFault
+label_fault_of (labels.Twice label) = label_fault.Twice label
+label_fault_of (labels.Missing func index label) = label_fault.Missing func index label
+label_fault_of (labels.BadEntry func) = label_fault.BadEntry func
+label_fault_of (labels.BadArity func index) = label_fault.BadArity func index
+
+-- a fault of a text, as the reader of texts counts it
+record TextFirst (bytes : List ℕ) (fault : TextFault) : Type 0 where
+  form : ℕ
+  cause : Cause
+  first : FirstFault bytes form cause
+  is : fault ≡ text_fault_of form cause
+
+text_first : (bytes : List ℕ) (fault : TextFault) → HasTextFault bytes fault → TextFirst bytes fault
+text_first bytes (text_fault.BadText form) p = record { form = form; cause = text.BadText; first = p; is = refl }
+text_first bytes (text_fault.TooDeep form) p = record { form = form; cause = text.TooDeep; first = p; is = refl }
+text_first bytes text_fault.NoMemory p = absurd p
+
+-- a fault of labels, as the label rules tell it
+record LabelFirst (bytes : List ℕ) (fault : LabelFault) : Type 0 where
+  broken : Break
+  first : HasBreak bytes broken
+  is : fault ≡ label_fault_of broken
+
+label_first : (bytes : List ℕ) (fault : LabelFault) → IsSomeAnd (break_of fault) (HasBreak bytes) → LabelFirst bytes fault
+label_first bytes (label_fault.Twice label) p = record { broken = labels.Twice label; first = p; is = refl }
+label_first bytes (label_fault.Missing func index label) p = record { broken = labels.Missing func index label; first = p; is = refl }
+label_first bytes (label_fault.BadEntry func) p = record { broken = labels.BadEntry func; first = p; is = refl }
+label_first bytes (label_fault.BadArity func index) p = record { broken = labels.BadArity func index; first = p; is = refl }
+label_first bytes label_fault.NoMemory p = absurd p
+
+same_text : (bytes : List ℕ) (e f : TextFault) → TextFirst bytes e → TextFirst bytes f → e ≡ f
+same_text bytes e f p q =
+    let same = same_fault bytes p.form q.form p.cause q.cause p.first q.first in
+    p.is ∙ ap₂ text_fault_of same.0 same.1 ∙ sym q.is
+
+same_label : (bytes : List ℕ) (e f : LabelFault) → LabelFirst bytes e → LabelFirst bytes f → e ≡ f
+same_label bytes e f p q = p.is ∙ ap label_fault_of (one_break bytes p.broken q.broken p.first q.first) ∙ sym q.is
+
+-- what reads as forms has no fault of a text
+no_forms : {G : Type 0} (bytes : List ℕ) (fault : TextFault) (forms : List AsmTerm) → HasTextFault bytes fault → AreForms bytes forms → G
+no_forms bytes fault forms p are = let first = text_first bytes fault p in absurd (reads_wholly bytes forms first.form first.cause are first.first)
+
+one_fault : (bytes : List ℕ) (a b : SourceFault) → HasCause bytes a → HasCause bytes b → a ≡ b
+one_fault bytes (Text e) (Text f) p q = ap (λ e. Text e) (same_text bytes e f (text_first bytes e p) (text_first bytes f q))
+one_fault bytes (Text e) (Form f) p q = no_forms bytes e q.forms p q.are_forms
+one_fault bytes (Text e) (Label f) p q = let l = label_first bytes f q in no_forms bytes e l.first.forms p l.first.are_forms
+one_fault bytes (Text e) NotBuilt p q = no_forms bytes e q.1.forms p q.1.are_forms
+one_fault bytes (Form e) (Text f) p q = no_forms bytes f p.forms q p.are_forms
+one_fault bytes (Form e) (Form f) p q = ap (λ f. Form f) (one_form_fault bytes e f p q)
+one_fault bytes (Form e) (Label f) p q = let l = label_first bytes f q in fault_or_break bytes e l.broken p l.first
+one_fault bytes (Form e) NotBuilt p q = fault_or_module bytes e q.0 p q.1
+one_fault bytes (Label e) (Text f) p q = let l = label_first bytes e p in no_forms bytes f l.first.forms q l.first.are_forms
+one_fault bytes (Label e) (Form f) p q = let l = label_first bytes e p in fault_or_break bytes f l.broken q l.first
+one_fault bytes (Label e) (Label f) p q = ap (λ l. Label l) (same_label bytes e f (label_first bytes e p) (label_first bytes f q))
+one_fault bytes (Label e) NotBuilt p q = let l = label_first bytes e p in break_or_module bytes l.broken q.0 l.first q.1
+one_fault bytes NotBuilt (Text f) p q = no_forms bytes f p.1.forms q p.1.are_forms
+one_fault bytes NotBuilt (Form f) p q = fault_or_module bytes f p.0 q p.1
+one_fault bytes NotBuilt (Label f) p q = let l = label_first bytes f q in break_or_module bytes l.broken p.0 l.first p.1
+one_fault bytes NotBuilt NotBuilt p q = refl
+
+-- the source of a module that is compiled has no cause to be refused
+not_good : {G : Type 0} (bytes : List ℕ) (fault : SourceFault) (m : Module) → HasCause bytes fault → IsSource bytes m → G
+not_good bytes (Text f) m p q = no_forms bytes f q.0.forms p q.0.are_forms
+not_good bytes (Form f) m p q = fault_or_module bytes f m p q.0
+not_good bytes (Label f) m p q = let l = label_first bytes f p in break_or_module bytes l.broken m l.first q.0
+not_good bytes NotBuilt m p q = absurd (p.2 (subst Accepted (one_module bytes m p.0 q.0 p.1) q.1))
 
 one_cause : (bytes : List ℕ) (a b : Verdict) → CauseIn bytes a → CauseIn bytes b → a ≡ b
 one_cause bytes NotHeld b p q = absurd p
 one_cause bytes TooLong b p q = absurd p
 one_cause bytes a NotHeld p q = absurd q
 one_cause bytes a TooLong p q = absurd q
-one_cause bytes (OfText k c) (OfText l d) p q = let same = same_fault bytes k l c d p q in let form = same.0 in let cause = same.1 in λ i. OfText (form i) (cause i)
-one_cause bytes (OfText k c) (OfForms f) p q = absurd (reads_wholly bytes q.forms k c q.are_forms p)
-one_cause bytes (OfText k c) (OfLabels x) p q = absurd (reads_wholly bytes q.forms k c q.are_forms p)
-one_cause bytes (OfText k c) Other p q = no_module bytes k c q.0 p q.1
-one_cause bytes (OfText k c) Good p q = no_module bytes k c q.0 p q.1.0
-one_cause bytes (OfForms e) (OfText l d) p q = absurd (reads_wholly bytes p.forms l d p.are_forms q)
-one_cause bytes (OfForms e) (OfForms f) p q = ap (λ f. OfForms f) (one_form_fault bytes e f p q)
-one_cause bytes (OfForms e) (OfLabels x) p q = fault_or_break bytes e x p q
-one_cause bytes (OfForms e) Other p q = fault_or_module bytes e q.0 p q.1
-one_cause bytes (OfForms e) Good p q = fault_or_module bytes e q.0 p q.1.0
-one_cause bytes (OfLabels x) (OfText l d) p q = absurd (reads_wholly bytes p.forms l d p.are_forms q)
-one_cause bytes (OfLabels x) (OfForms f) p q = fault_or_break bytes f x q p
-one_cause bytes (OfLabels x) (OfLabels y) p q = ap (λ x. OfLabels x) (one_break bytes x y p q)
-one_cause bytes (OfLabels x) Other p q = break_or_module bytes x q.0 p q.1
-one_cause bytes (OfLabels x) Good p q = break_or_module bytes x q.0 p q.1.0
-one_cause bytes Other (OfText l d) p q = no_module bytes l d p.0 q p.1
-one_cause bytes Other (OfForms f) p q = fault_or_module bytes f p.0 q p.1
-one_cause bytes Other (OfLabels y) p q = break_or_module bytes y p.0 q p.1
-one_cause bytes Other Other p q = refl
-one_cause bytes Other Good p q = absurd (p.2 (subst Accepted (one_module bytes q.0 p.0 q.1.0 p.1) q.1.1))
-one_cause bytes Good (OfText l d) p q = no_module bytes l d p.0 q p.1.0
-one_cause bytes Good (OfForms f) p q = fault_or_module bytes f p.0 q p.1.0
-one_cause bytes Good (OfLabels y) p q = break_or_module bytes y p.0 q p.1.0
-one_cause bytes Good Other p q = absurd (q.2 (subst Accepted (one_module bytes p.0 q.0 p.1.0 q.1) p.1.1))
+one_cause bytes (Bad e) (Bad f) p q = ap (λ e. Bad e) (one_fault bytes e f p q)
+one_cause bytes (Bad e) Good p q = not_good bytes e q.0 p q.1
+one_cause bytes Good (Bad f) p q = not_good bytes f p.0 q p.1
 one_cause bytes Good Good p q = refl
 
 -- a verdict is that of a file that is absent or has these bytes
@@ -134,16 +163,7 @@ of_good (Some bytes) p = record { verdict = Good; judges = inr (p.0, (p.1, p.2))
 judged : (held : Files) (w : Compile) (first : Option Refusal) → First held w first → Judged (files.get held w.file) first
 judged held w (Some Absent) p = of_none _ p
 judged held w (Some Longer) p = of_long _ p
-judged held w (Some (BadText form)) p = of_bytes _ _ (OfText form text.BadText) refl p
-judged held w (Some (TooDeep form)) p = of_bytes _ _ (OfText form text.TooDeep) refl p
-judged held w (Some (BadForm form)) p = of_bytes _ _ (OfForms (forms.BadForm form)) refl p
-judged held w (Some (OutsideProfile func index name)) p = of_bytes _ _ (OfForms (forms.OutsideProfile func index name)) refl p
-judged held w (Some (BadInstruction func index)) p = of_bytes _ _ (OfForms (forms.BadInstruction func index)) refl p
-judged held w (Some (Twice label)) p = of_bytes _ _ (OfLabels (labels.Twice label)) refl p
-judged held w (Some (Missing func index label)) p = of_bytes _ _ (OfLabels (labels.Missing func index label)) refl p
-judged held w (Some (BadEntry func)) p = of_bytes _ _ (OfLabels (labels.BadEntry func)) refl p
-judged held w (Some (BadArity func index)) p = of_bytes _ _ (OfLabels (labels.BadArity func index)) refl p
-judged held w (Some NotBuilt) p = of_bytes _ _ Other refl p
+judged held w (Some (OfSource fault)) p = of_bytes _ _ (Bad fault) refl p
 judged held w None p = of_good _ p
 
 pub one_first : (held : Files) (w : Compile) (a b : Option Refusal) → First held w a → First held w b → a ≡ b

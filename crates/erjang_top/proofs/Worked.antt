@@ -7,8 +7,7 @@ use Rattle.ej_outside.specs.Shelf.{Files, ShelfState, GetsWith, PutsWith, Replac
 use Rattle.beam_code.specs.declared.module.Module.{Module}
 use Rattle.erjang_top.specs.declared.fault.Fault.{Fault}
 use Rattle.erjang_top.specs.declared.fault.Fault.TheVariants as fault
-use Rattle.erjang_top.specs.declared.fault.Refusal.TheVariants as refusal
-use Rattle.erjang_top.specs.Answers.{Refusal, Absent, Longer, BadText, TooDeep, BadForm, OutsideProfile, BadInstruction, Twice, Missing, BadEntry, BadArity, NotBuilt, First, Held, Refused, Unchanged, Counted, Compiled, PutFailed, Told, SameCounts, longest_file}
+use Rattle.erjang_top.specs.Answers.{Refusal, Absent, Longer, OfSource, First, Held, Refused, Unchanged, Counted, Compiled, PutFailed, Told, SameCounts, longest_file}
 use Rattle.erjang_top.specs.Sources.{IsSource}
 use Rattle.erjang_top.specs.Words.{Compile}
 use Rattle.erjang_top.proofs.OneFirst.{one_first}
@@ -77,28 +76,19 @@ work_put_failed w old mid new source name class r b p = record {
 
 -- the source was not read
 pub work_not_got : (w : Compile) (old new : ShelfState) (fault : Fault) → GetsFault w.file old fault new → Works w old (Err fault) new
-work_not_got w old new (fault.Refused refusal.Absent) g = record {
+work_not_got w old new fault.Absent g = record {
   told = g.told;
   only = told_map old.held (λ held. First held w (Some Absent)) _ g.told (λ held absent other is. one_first held w other (Some Absent) is absent);
   counted = record { contents = g.contents; read_faults = g.read_faults; put_faults = g.put_faults; misses = g.misses; longs = g.longs };
 }
-work_not_got w old new (fault.Refused refusal.Longer) g = record {
+work_not_got w old new fault.Longer g = record {
   told = g.told;
   only = told_map old.held (λ held. First held w (Some Longer)) _ g.told (λ held longer other is. one_first held w other (Some Longer) is longer);
   counted = record { contents = g.contents; read_faults = g.read_faults; put_faults = g.put_faults; misses = g.misses; longs = g.longs };
 }
 work_not_got w old new fault.ReadFailed g = record { contents = g.contents; read_faults = g.read_faults; put_faults = g.put_faults; misses = g.misses; longs = g.longs }
 work_not_got w old new fault.NoMemory g = record { contents = g.contents; read_faults = g.read_faults; put_faults = g.put_faults; misses = g.misses; longs = g.longs }
-work_not_got w old new (fault.Refused (refusal.BadText form)) g = absurd g
-work_not_got w old new (fault.Refused (refusal.TooDeep form)) g = absurd g
-work_not_got w old new (fault.Refused (refusal.BadForm form)) g = absurd g
-work_not_got w old new (fault.Refused (refusal.OutsideProfile func index name)) g = absurd g
-work_not_got w old new (fault.Refused (refusal.BadInstruction func index)) g = absurd g
-work_not_got w old new (fault.Refused (refusal.Twice label)) g = absurd g
-work_not_got w old new (fault.Refused (refusal.Missing func index label)) g = absurd g
-work_not_got w old new (fault.Refused (refusal.BadEntry func)) g = absurd g
-work_not_got w old new (fault.Refused (refusal.BadArity func index)) g = absurd g
-work_not_got w old new (fault.Refused refusal.NotBuilt) g = absurd g
+work_not_got w old new (fault.Refused cause) g = absurd g
 work_not_got w old new fault.PutFailed g = absurd g
 
 -- reading changed no count
@@ -117,18 +107,9 @@ refused_source w cause old new source r has counted = record {
 -- the source was read, and is built to no class
 pub work_not_built : (w : Compile) (old new : ShelfState) (source : List ℕ) (fault : Fault)
     → Read w source old new → HasFault source fault → Works w old (Err fault) new
-work_not_built w old new source (fault.Refused refusal.Absent) r b = absurd b
-work_not_built w old new source (fault.Refused refusal.Longer) r b = absurd b
-work_not_built w old new source (fault.Refused (refusal.BadText form)) r b = refused_source w (BadText form) old new source r (λ held s. held_source w source held _ s.0 (s.1, b)) (kept w old new source r)
-work_not_built w old new source (fault.Refused (refusal.TooDeep form)) r b = refused_source w (TooDeep form) old new source r (λ held s. held_source w source held _ s.0 (s.1, b)) (kept w old new source r)
-work_not_built w old new source (fault.Refused (refusal.BadForm form)) r b = refused_source w (BadForm form) old new source r (λ held s. held_source w source held _ s.0 (s.1, b)) (kept w old new source r)
-work_not_built w old new source (fault.Refused (refusal.OutsideProfile func index name)) r b = refused_source w (OutsideProfile func index name) old new source r (λ held s. held_source w source held _ s.0 (s.1, b)) (kept w old new source r)
-work_not_built w old new source (fault.Refused (refusal.BadInstruction func index)) r b = refused_source w (BadInstruction func index) old new source r (λ held s. held_source w source held _ s.0 (s.1, b)) (kept w old new source r)
-work_not_built w old new source (fault.Refused (refusal.Twice label)) r b = refused_source w (Twice label) old new source r (λ held s. held_source w source held _ s.0 (s.1, b)) (kept w old new source r)
-work_not_built w old new source (fault.Refused (refusal.Missing func index label)) r b = refused_source w (Missing func index label) old new source r (λ held s. held_source w source held _ s.0 (s.1, b)) (kept w old new source r)
-work_not_built w old new source (fault.Refused (refusal.BadEntry func)) r b = refused_source w (BadEntry func) old new source r (λ held s. held_source w source held _ s.0 (s.1, b)) (kept w old new source r)
-work_not_built w old new source (fault.Refused (refusal.BadArity func index)) r b = refused_source w (BadArity func index) old new source r (λ held s. held_source w source held _ s.0 (s.1, b)) (kept w old new source r)
-work_not_built w old new source (fault.Refused refusal.NotBuilt) r b = refused_source w NotBuilt old new source r (λ held s. held_source w source held _ s.0 (s.1, b)) (kept w old new source r)
+work_not_built w old new source (fault.Refused cause) r b = refused_source w (OfSource cause) old new source r (λ held s. held_source w source held _ s.0 (s.1, b)) (kept w old new source r)
+work_not_built w old new source fault.Absent r b = absurd b
+work_not_built w old new source fault.Longer r b = absurd b
 work_not_built w old new source fault.ReadFailed r b = absurd b
 work_not_built w old new source fault.PutFailed r b = absurd b
 work_not_built w old new source fault.NoMemory r b = kept w old new source r

@@ -1,19 +1,15 @@
 -- What the program answers to each status, what it says, and what stands afterwards.
-use Rattle.std.specs.Prelude.{◌≡◌, ◌≢◌, ℕ, ◌-◌, ◌^◌, ◌<◌, ◌≤◌, ◌⊎◌, List, [], ◌∷◌, ◌++◌, length, take, codes, encode_utf8_all, Option, None, Some, IfSome, IsSomeAnd}
+use Rattle.std.specs.Prelude.{◌≡◌, ◌≢◌, ℕ, ◌-◌, ◌^◌, ◌<◌, ◌≤◌, ◌⊎◌, List, [], ◌∷◌, ◌++◌, length, take, codes, Option, None, Some, IfSome, IsSomeAnd}
 use Rattle.std.specs.Option.{option_map}
 use Rattle.std.specs.FinMap as files
-use Rattle.std.specs.Fmt.{decimal}
 use Rattle.beam_code.specs.declared.module.Module.{Module}
-use Rattle.beam_code.specs.Labels as labels
-use Rattle.asm_module.specs.declared.fault.FormFault.TheVariants as forms
-use Rattle.asm_terms.specs.Forms as text
-use Rattle.asm_terms.specs.Forms.{FirstFault}
 use Rattle.ej_outside.specs.Counts.{Same, Rises}
 use Rattle.ej_outside.specs.Shelf.{Files, ShelfState, MayReplace}
 use Rattle.ej_outside.specs.Sink.{SinkState}
 use Rattle.erjang_top.specs.first_path.Emitted.{Emitted}
 use Rattle.erjang_top.specs.Mangle.{mangle}
-use Rattle.erjang_top.specs.Sources.{IsSource, HasFormFault, HasBreak, IsNotBuilt}
+use Rattle.erjang_top.specs.declared.fault.SourceFault.{SourceFault}
+use Rattle.erjang_top.specs.Sources.{IsSource, HasCause, fault_text}
 use Rattle.erjang_top.specs.Words.{Compile}
 
 -- the most bytes that a source may have
@@ -24,42 +20,12 @@ longest_file = 67108864
 abbrev pub class_file : List ℕ → List ℕ → List ℕ
 class_file outdir module' = outdir ++ codes "/" ++ mangle module' ++ codes ".class"
 
--- the first cause to refuse a source; forms, functions and the instructions of one are counted from 0
+-- why a file is refused
 pub data Refusal : Type 0 where
   Absent : Refusal
   Longer : Refusal
-  -- that form is the first that does not read
-  BadText : (form : ℕ) → Refusal
-  TooDeep : (form : ℕ) → Refusal
-  -- that form is out of order, or not of its shape
-  BadForm : (form : ℕ) → Refusal
-  -- an instruction of that name, or of a test or builtin of that name, that is not known
-  OutsideProfile : (func index : ℕ) (name : List ℕ) → Refusal
-  BadInstruction : (func index : ℕ) → Refusal
-  -- that label is defined a second time
-  Twice : (label : ℕ) → Refusal
-  -- the instruction names a label that it may not name
-  Missing : (func index label : ℕ) → Refusal
-  -- the function does not begin as it has to
-  BadEntry : (func : ℕ) → Refusal
-  -- a call or a fun of another arity than what it names
-  BadArity : (func index : ℕ) → Refusal
-  NotBuilt : Refusal
-
--- bytes that are not too many are refused for that cause
-abbrev pub HasCause : List ℕ → Refusal → Type 0
-HasCause bytes Absent = ⊥
-HasCause bytes Longer = ⊥
-HasCause bytes (BadText form) = FirstFault bytes form text.BadText
-HasCause bytes (TooDeep form) = FirstFault bytes form text.TooDeep
-HasCause bytes (BadForm form) = HasFormFault bytes (forms.BadForm form)
-HasCause bytes (OutsideProfile func index name) = HasFormFault bytes (forms.OutsideProfile func index name)
-HasCause bytes (BadInstruction func index) = HasFormFault bytes (forms.BadInstruction func index)
-HasCause bytes (Twice label) = HasBreak bytes (labels.Twice label)
-HasCause bytes (Missing func index label) = HasBreak bytes (labels.Missing func index label)
-HasCause bytes (BadEntry func) = HasBreak bytes (labels.BadEntry func)
-HasCause bytes (BadArity func index) = HasBreak bytes (labels.BadArity func index)
-HasCause bytes NotBuilt = IsNotBuilt bytes
+  -- its bytes, which are not too many, are refused
+  OfSource : SourceFault → Refusal
 
 -- the bytes of that file that are held
 abbrev pub Held : Files → Compile → (List ℕ → Type 0) → Type 0
@@ -69,38 +35,25 @@ Held held w P = IsSomeAnd (files.get held w.file) P
 abbrev pub First : Files → Compile → Option Refusal → Type 0
 First held w (Some Absent) = files.get held w.file ≡ None
 First held w (Some Longer) = Held held w (λ bytes. longest_file < length bytes)
-First held w (Some cause) = Held held w (λ bytes. (length bytes ≤ longest_file) × HasCause bytes cause)
+First held w (Some (OfSource fault)) = Held held w (λ bytes. (length bytes ≤ longest_file) × HasCause bytes fault)
 First held w None = Held held w (λ bytes. (length bytes ≤ longest_file) × (m : Module) × IsSource bytes m)
-
--- a number, with what is said before and behind it
-abbrev pub numbered : List ℕ → ℕ → List ℕ → List ℕ
-numbered before n behind = before ++ decimal n ++ behind
-
--- what is said of an instruction
-abbrev pub instruction_text : ℕ → ℕ → List ℕ → List ℕ
-instruction_text func index cause = numbered (codes ": function ") func [] ++ numbered (codes ", instruction ") index cause
 
 -- what is said of a refusal
 abbrev pub cause_text : Refusal → List ℕ
 cause_text Absent = codes ": absent"
 cause_text Longer = codes ": longer than 67108864 bytes"
-cause_text (BadText form) = numbered (codes ": form ") form (codes ": bad text")
-cause_text (TooDeep form) = numbered (codes ": form ") form (codes ": too deep")
-cause_text (BadForm form) = numbered (codes ": form ") form (codes ": bad form")
-cause_text (OutsideProfile func index name) = instruction_text func index (codes ": ") ++ encode_utf8_all name ++ codes " outside the profile"
-cause_text (BadInstruction func index) = instruction_text func index (codes ": bad instruction")
-cause_text (Twice label) = numbered (codes ": label ") label (codes ": defined twice")
-cause_text (Missing func index label) = instruction_text func index (codes ": label ") ++ numbered [] label (codes " missing")
-cause_text (BadEntry func) = numbered (codes ": function ") func (codes ": bad entry")
-cause_text (BadArity func index) = instruction_text func index (codes ": bad arity")
-cause_text NotBuilt = codes ": not built"
+cause_text (OfSource fault) = codes ": " ++ fault_text fault
 
--- a message about a file, with its newline
+-- a line about a file, with its newline
+abbrev pub line : List ℕ → List ℕ → List ℕ
+line file said = file ++ (said ++ 10 ∷ [])
+
+-- the line about a command's file
 abbrev pub message : Compile → List ℕ → List ℕ
-message w cause = w.file ++ cause ++ 10 ∷ []
+message w said = line w.file said
 
 abbrev pub usage_line : List ℕ
-usage_line = codes "usage: erjang compile OUTDIR FILE... | beam SCRIPT FILE... | run SCRIPT CLASS... | verify CLASS... | sample N" ++ 10 ∷ []
+usage_line = codes "usage: erjang compile OUTDIR FILE... | beam SCRIPT FILE... | run SCRIPT CLASS... | verify CLASS... | sample N\n"
 
 -- a sink took the whole text
 abbrev pub TookAll : SinkState → List ℕ → SinkState → Type 0
@@ -126,7 +79,7 @@ pub record Unchanged (old new : ShelfState) (Reads Misses Longs : ℕ → ℕ �
 abbrev pub Counted : Refusal → ShelfState → ShelfState → Type 0
 Counted Absent old new = Unchanged old new Same Rises Same
 Counted Longer old new = Unchanged old new Same Same Rises
-Counted cause old new = Unchanged old new Same Same Same
+Counted (OfSource fault) old new = Unchanged old new Same Same Same
 
 -- the source is refused for that cause
 pub record Refused (w : Compile) (cause : Refusal) (old new : ShelfState) : Type 0 where

@@ -1,5 +1,5 @@
 -- What the parts of the top call owe: the words, the work and the report.
-use Rattle.std.specs.Prelude.{◌≡◌, ℕ, ◌<◌, ◌≤◌, List, [], ◌∷◌, ◌++◌, length, codes, None, Some, Result, Ok, Err, IsSomeAnd, string_bytes}
+use Rattle.std.specs.Prelude.{◌≡◌, ℕ, ◌<◌, ◌≤◌, ◌⊎◌, List, [], ◌∷◌, ◌++◌, length, codes, None, Some, Result, Ok, Err, IsSomeAnd, string_bytes}
 use Rattle.std.specs.FinMap as files
 use Rattle.beam_code.specs.declared.module.Module.{Module}
 use Rattle.asm_terms.specs.declared.fault.TextFault.{TextFault}
@@ -15,59 +15,37 @@ use Rattle.ej_outside.specs.declared.fault.Failed as failed
 use Rattle.std.specs.declared.vec.Vec.{Vec}
 use Rattle.erjang_top.specs.declared.fault.Fault.{Fault}
 use Rattle.erjang_top.specs.declared.fault.Fault.TheVariants as fault
-use Rattle.erjang_top.specs.declared.fault.Refusal as code
-use Rattle.erjang_top.specs.declared.fault.Refusal.TheVariants as refusal
+use Rattle.erjang_top.specs.declared.fault.SourceFault.TheVariants as refusal
 use Rattle.erjang_top.specs.declared.compile.ReadyClass.{ReadyClass}
 use Rattle.erjang_top.specs.declared.words.CompileWords.{CompileWords}
-use Rattle.erjang_top.specs.Answers.{Refusal, Absent, Longer, BadText, TooDeep, BadForm, OutsideProfile, BadInstruction, Twice, Missing, BadEntry, BadArity, NotBuilt, HasCause, Refused, Unchanged, Compiled, PutFailed, Told, SameCounts, TookAll, TookFront, Says, cause_text, class_file, longest_file}
+use Rattle.erjang_top.specs.Answers.{Absent, Longer, OfSource, Refused, Unchanged, Compiled, PutFailed, Told, SameCounts, TookAll, TookFront, Says, cause_text, line, class_file, longest_file}
 use Rattle.erjang_top.specs.first_path.Emitted.{Emitted}
-use Rattle.erjang_top.specs.Sources.{IsSource}
+use Rattle.erjang_top.specs.Sources.{IsSource, HasCause}
 use Rattle.erjang_top.specs.Words.{Compile}
 
 -- the words that a command's own hold
 abbrev pub seen_words : CompileWords → Compile
 seen_words words = record { outdir = words.outdir.now; file = words.file.now }
 
--- the refusal that a code stands for
-abbrev pub refusal_of : code.Refusal → Refusal
-refusal_of refusal.Absent = Absent
-refusal_of refusal.Longer = Longer
-refusal_of (refusal.BadText form) = BadText form
-refusal_of (refusal.TooDeep form) = TooDeep form
-refusal_of (refusal.BadForm form) = BadForm form
-refusal_of (refusal.OutsideProfile func index name) = OutsideProfile func index name
-refusal_of (refusal.BadInstruction func index) = BadInstruction func index
-refusal_of (refusal.Twice label) = Twice label
-refusal_of (refusal.Missing func index label) = Missing func index label
-refusal_of (refusal.BadEntry func) = BadEntry func
-refusal_of (refusal.BadArity func index) = BadArity func index
-refusal_of refusal.NotBuilt = NotBuilt
-
 -- a fault of a text, as one of the work
 abbrev pub fault_of_text : TextFault → Fault
-fault_of_text (text_fault.BadText form) = fault.Refused (refusal.BadText form)
-fault_of_text (text_fault.TooDeep form) = fault.Refused (refusal.TooDeep form)
 fault_of_text text_fault.NoMemory = fault.NoMemory
+fault_of_text text = fault.Refused (refusal.Text text)
 
 -- a fault of forms
 abbrev pub fault_of_forms : FormFault → Fault
-fault_of_forms (form_fault.BadForm form) = fault.Refused (refusal.BadForm form)
-fault_of_forms (form_fault.OutsideProfile func index name) = fault.Refused (refusal.OutsideProfile func index name)
-fault_of_forms (form_fault.BadInstruction func index) = fault.Refused (refusal.BadInstruction func index)
 fault_of_forms form_fault.NoMemory = fault.NoMemory
+fault_of_forms forms = fault.Refused (refusal.Form forms)
 
 -- a break of a label rule
 abbrev pub fault_of_labels : LabelFault → Fault
-fault_of_labels (label_fault.Twice label) = fault.Refused (refusal.Twice label)
-fault_of_labels (label_fault.Missing func index label) = fault.Refused (refusal.Missing func index label)
-fault_of_labels (label_fault.BadEntry func) = fault.Refused (refusal.BadEntry func)
-fault_of_labels (label_fault.BadArity func index) = fault.Refused (refusal.BadArity func index)
 fault_of_labels label_fault.NoMemory = fault.NoMemory
+fault_of_labels labels = fault.Refused (refusal.Label labels)
 
 -- the first fault of a source that is not read
 abbrev pub GetsFault : List ℕ → ShelfState → Fault → ShelfState → Type 0
-GetsFault file old (fault.Refused refusal.Absent) new = GetsWith old new (λ held. files.get held file ≡ None) Same Rises Same
-GetsFault file old (fault.Refused refusal.Longer) new = GetsWith old new (λ held. IsSomeAnd (files.get held file) (λ bytes. longest_file < length bytes)) Same Same Rises
+GetsFault file old fault.Absent new = GetsWith old new (λ held. files.get held file ≡ None) Same Rises Same
+GetsFault file old fault.Longer new = GetsWith old new (λ held. IsSomeAnd (files.get held file) (λ bytes. longest_file < length bytes)) Same Same Rises
 GetsFault file old (fault.Refused _) new = ⊥
 GetsFault file old fault.ReadFailed new = GetsWith old new (λ held. Unit {0}) Rises Same Same
 GetsFault file old fault.PutFailed new = ⊥
@@ -87,7 +65,9 @@ pub record IsClassOf (outdir source name class : List ℕ) : Type 0 where
 
 -- why a source of these bytes has no class: its cause, or that memory was wanting
 abbrev pub HasFault : List ℕ → Fault → Type 0
-HasFault source (fault.Refused cause) = HasCause source (refusal_of cause)
+HasFault source (fault.Refused cause) = HasCause source cause
+HasFault source fault.Absent = ⊥
+HasFault source fault.Longer = ⊥
 HasFault source fault.ReadFailed = ⊥
 HasFault source fault.PutFailed = ⊥
 HasFault source fault.NoMemory = Unit {0}
@@ -105,7 +85,9 @@ Builds outdir source (Err fault) = HasFault source fault
 -- what the work leaves on the shelf
 abbrev pub Works : Compile → ShelfState → Result (Unit {0}) Fault → ShelfState → Type 0
 Works w old (Ok done) new = Told old.held new.held (Compiled w) × SameCounts old new
-Works w old (Err (fault.Refused cause)) new = Refused w (refusal_of cause) old new
+Works w old (Err fault.Absent) new = Refused w Absent old new
+Works w old (Err fault.Longer) new = Refused w Longer old new
+Works w old (Err (fault.Refused cause)) new = Refused w (OfSource cause) old new
 Works w old (Err fault.ReadFailed) new = Unchanged old new Rises Same Same
 Works w old (Err fault.PutFailed) new = PutFailed w old new
 Works w old (Err fault.NoMemory) new = Unchanged old new Same Same Same
@@ -118,7 +100,9 @@ WritesAll old text (Err fault) new = TookFront old text new
 -- what is said of an outcome about a file, and its status
 abbrev pub Reports : List ℕ → Result (Unit {0}) Fault → ℕ → SinkState → SinkState → Type 0
 Reports file (Ok done) status old new = (status ≡ 0) × (new ≡ old)
-Reports file (Err (fault.Refused cause)) status old new = Says 1 (file ++ cause_text (refusal_of cause) ++ 10 ∷ []) status old new
-Reports file (Err fault.ReadFailed) status old new = Says 3 (file ++ codes ": read failed" ++ 10 ∷ []) status old new
+Reports file (Err fault.Absent) status old new = Says 1 (line file (cause_text Absent)) status old new
+Reports file (Err fault.Longer) status old new = Says 1 (line file (cause_text Longer)) status old new
+Reports file (Err fault.ReadFailed) status old new = Says 3 (line file (codes ": read failed")) status old new
+Reports file (Err (fault.Refused cause)) status old new = Says 1 (line file (cause_text (OfSource cause))) status old new ⊎ ((status ≡ 5) × (new ≡ old))
 Reports file (Err fault.PutFailed) status old new = (status ≡ 4) × (new ≡ old)
 Reports file (Err fault.NoMemory) status old new = (status ≡ 5) × (new ≡ old)

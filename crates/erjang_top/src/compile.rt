@@ -4,7 +4,7 @@ ghost use Rattle.std.specs.Prelude.{◌≡◌, ◌++◌, codes, IfOk, string_byt
 ghost use Rattle.erjang_top.specs.Answers.{class_file};
 ghost use Rattle.erjang_top.specs.Work.{GetsSource, Builds, Works, seen_words};
 
-use crate::fault::{Fault, Refusal};
+use crate::fault::Fault;
 use crate::first_path::emit::emit;
 use crate::mangle::mangle;
 use crate::source::read_source;
@@ -29,8 +29,8 @@ fn get_source<S: Shelf>(alloc: Global, shelf: &mut S, file: &str) -> Result<Vec<
 {
     match shelf.get(alloc, file, LONGEST_FILE) {
         Ok(Got::Bytes(bytes)) => Ok(bytes),
-        Ok(Got::Absent) => Err(Fault::Refused(Refusal::Absent)),
-        Ok(Got::Longer) => Err(Fault::Refused(Refusal::Longer)),
+        Ok(Got::Absent) => Err(Fault::Absent),
+        Ok(Got::Longer) => Err(Fault::Longer),
         Err(ShelfFault::Failed) => Err(Fault::ReadFailed),
         Err(ShelfFault::NoMemory) => Err(Fault::NoMemory),
     }

@@ -2,70 +2,52 @@
 
 use asm_module::FormFault;
 use asm_terms::TextFault;
-use ej_term::Text;
 use label_check::LabelFault;
 use std::alloc::AllocError;
+use std::fmt;
+use thiserror::Error;
 
-/// Why a source is refused: the first cause. Forms, functions and the instructions of one are counted from 0.
-#[derive(Drop)]
-pub(crate) enum Refusal {
-    /// There is no file of that name.
-    Absent,
-    /// There is one, with too many bytes.
-    Longer,
-    /// That form of its text does not read.
-    BadText {
-        form: usize,
-    },
-    /// That form of its text has more than 256 tuples, lists and maps open at some place.
-    TooDeep {
-        form: usize,
-    },
-    /// That form is out of order, or not of its shape.
-    BadForm {
-        form: usize,
-    },
-    /// An instruction that is not known, or a test or builtin that is not, with its name.
-    OutsideProfile {
-        func: usize,
-        index: usize,
-        name: Text,
-    },
-    /// The form is no instruction, or its operands fit no row of its name.
-    BadInstruction {
-        func: usize,
-        index: usize,
-    },
-    /// That label is defined a second time.
-    Twice {
-        label: u32,
-    },
-    /// The instruction names a label that it may not name.
-    Missing {
-        func: usize,
-        index: usize,
-        label: u32,
-    },
-    /// The function does not begin as it has to.
-    BadEntry {
-        func: usize,
-    },
-    /// A call or a fun of another arity than what it names.
-    BadArity {
-        func: usize,
-        index: usize,
-    },
-    /// Its module is none that is compiled.
+/// Why the bytes of a source are refused: the first cause. A want of memory in what reads them is none of these.
+#[derive(Debug, Drop, Error)]
+pub(crate) enum SourceFault {
+    /// A form of the text does not read.
+    Text(TextFault),
+    /// The forms are those of no module.
+    Form(FormFault),
+    /// The module breaks a label rule.
+    Label(LabelFault),
+    /// The module is none that is compiled.
     NotBuilt,
+}
+
+/// What is said of the cause.
+impl fmt::Display for SourceFault {
+    ghost use Rattle.std.specs.Prelude.{Some};
+    ghost use Rattle.erjang_top.specs.Sources.{fault_text};
+
+    ghost output = { λ fault. Some (fault_text fault) };
+
+    fn fmt<W: fmt::Write>(&self, f: &mut fmt::Formatter<W>) -> fmt::Result {
+        match self {
+            SourceFault::Text(fault) => write!(f, "{fault}"),
+            SourceFault::Form(fault) => write!(f, "{fault}"),
+            SourceFault::Label(fault) => write!(f, "{fault}"),
+            SourceFault::NotBuilt => write!(f, "not built"),
+        }
+    }
 }
 
 /// Why no class was put.
 #[derive(Drop)]
 pub(crate) enum Fault {
-    /// The source is refused.
-    Refused(Refusal),
+    /// There is no file of that name.
+    Absent,
+    /// There is one, with too many bytes.
+    Longer,
     /// The source could not be read.
     ReadFailed,
+    /// The source is refused.
+    Refused(SourceFault),
     /// The class could not be put.
     PutFailed,
     /// Memory was wanting.
@@ -91,9 +73,8 @@ impl From<TextFault> for Fault {
 
     fn from(text: TextFault) -> Fault {
         match text {
-            TextFault::BadText { form } => Fault::Refused(Refusal::BadText { form }),
-            TextFault::TooDeep { form } => Fault::Refused(Refusal::TooDeep { form }),
             TextFault::NoMemory => Fault::NoMemory,
+            refused => Fault::Refused(SourceFault::Text(refused)),
         }
     }
 }
@@ -106,14 +87,8 @@ impl From<FormFault> for Fault {
 
     fn from(forms: FormFault) -> Fault {
         match forms {
-            FormFault::BadForm { form } => Fault::Refused(Refusal::BadForm { form }),
-            FormFault::OutsideProfile { func, index, name } => {
-                Fault::Refused(Refusal::OutsideProfile { func, index, name })
-            }
-            FormFault::BadInstruction { func, index } => {
-                Fault::Refused(Refusal::BadInstruction { func, index })
-            }
             FormFault::NoMemory => Fault::NoMemory,
+            refused => Fault::Refused(SourceFault::Form(refused)),
         }
     }
 }
@@ -126,15 +101,8 @@ impl From<LabelFault> for Fault {
 
     fn from(labels: LabelFault) -> Fault {
         match labels {
-            LabelFault::Twice { label } => Fault::Refused(Refusal::Twice { label }),
-            LabelFault::Missing { func, index, label } => {
-                Fault::Refused(Refusal::Missing { func, index, label })
-            }
-            LabelFault::BadEntry { func } => Fault::Refused(Refusal::BadEntry { func }),
-            LabelFault::BadArity { func, index } => {
-                Fault::Refused(Refusal::BadArity { func, index })
-            }
             LabelFault::NoMemory => Fault::NoMemory,
+            refused => Fault::Refused(SourceFault::Label(refused)),
         }
     }
 }

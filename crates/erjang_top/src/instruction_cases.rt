@@ -1,8 +1,7 @@
 //! Each row of the table of instructions: taken in its shape, with its numbers at their ends, and refused with each
 //! operand wrong in turn.
 
-use crate::erjang;
-use ej_outside::{MemShelf, MemSink};
+use crate::tests::{NAME, run};
 use std::alloc::{AllocError, Global};
 use std::test::Fail;
 
@@ -374,17 +373,9 @@ fn is_bad(alloc: Global, instruction: &str) -> Result<bool, AllocError> {
     let mut source = String::from_str(alloc, BEFORE)?;
     source.push_str(instruction)?;
     source.push_str(".\nreturn.\n")?;
-    let mut files = Vec::new(alloc);
-    files.push((String::from_str(alloc, "m.S")?, source.into_bytes()))?;
-    let mut shelf = MemShelf::new(alloc, files, 4096, Vec::new(alloc))?;
-    let mut out = MemSink::new(alloc, 0, Vec::new(alloc))?;
-    let mut err = MemSink::new(alloc, 4096, Vec::new(alloc))?;
-    let mut words = Vec::new(alloc);
-    for word in ["compile", "o", "m.S"] {
-        words.push(String::from_str(alloc, word)?)?;
-    }
-    let _ = erjang(alloc, words.as_slice(), &mut shelf, &mut out, &mut err);
-    Ok(err.taken() == b"m.S: function 0, instruction 3: bad instruction\n".as_slice())
+    let words = ["compile", "o", NAME];
+    let ran = run(alloc, &words, source.as_bytes(), Vec::new(alloc))?;
+    Ok(ran.err.taken() == b"m.S: function 0, instruction 3: bad instruction\n".as_slice())
 }
 
 #[test]

@@ -14,6 +14,8 @@ mod source;
 mod source_rows;
 #[cfg(test)]
 mod tests;
+#[cfg(test)]
+mod text_rows;
 mod words;
 
 pub use first_path::laws::read_modules_are_in_range;

@@ -54,7 +54,7 @@ pub fn erjang<S: Shelf, O: Sink, E: Sink>(
         None => usage(err),
         Some(command) => {
             let outcome = compile(alloc, shelf, command);
-            report(err, command.file, outcome)
+            report(alloc, err, command.file, outcome)
         }
     }
 }

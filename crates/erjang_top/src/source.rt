@@ -5,7 +5,7 @@
 
 ghost use Rattle.erjang_top.specs.Work.{ReadsSource};
 
-use crate::fault::{Fault, Refusal};
+use crate::fault::{Fault, SourceFault};
 use crate::first_path::accept::accepts;
 use asm_module::module_of;
 use asm_terms::read_forms;
@@ -24,7 +24,7 @@ pub(crate) fn read_source(alloc: Global, bytes: &[u8]) -> Result<Module, Fault>
     let module = module_of(alloc, forms.as_slice())?;
     check(alloc, &module)?;
     if !accepts(alloc, &module)? {
-        return Err(Fault::Refused(Refusal::NotBuilt));
+        return Err(Fault::Refused(SourceFault::NotBuilt));
     }
     Ok(module)
 }

@@ -1,8 +1,7 @@
 //! Whole sources, each with what is said of it, by another reading of the rules.
 
-use crate::erjang;
-use ej_outside::{MemShelf, MemSink};
-use std::alloc::{AllocError, Global};
+use crate::tests::{NAME, run};
+use crate::text_rows::bytes_of;
 use std::test::Fail;
 
 /// The bytes of `m.S` in hexadecimal digits, and what `compile o m.S` says of it.
@@ -47,56 +46,23 @@ const ROWS: &str = "\
 7b6d6f64756c652c6d7d2e0a7b6578706f7274732c5b7b662c317d5d7d2e0a7b617474726962757465732c5b5d7d2e0a7b6c6162656c732c39397d2e0a7b66756e6374696f6e2c662c312c327d2e0a7b6c6162656c2c317d2e0a7b66756e635f696e666f2c7b61746f6d2c6d7d2c7b61746f6d2c667d2c317d2e0a7b6c6162656c2c327d2e0a7b6c6162656c2c337d2e0a7b6c6162656c2c39397d2e0a7b6d6f76652c6e696c2c7b782c307d7d2e0a72657475726e2e0a7b66756e6374696f6e2c672c322c31327d2e0a7b6c6162656c2c31317d2e0a7b6c696e652c5b5d7d2e0a7b66756e635f696e666f2c7b61746f6d2c6d7d2c7b61746f6d2c677d2c327d2e0a7b6c6162656c2c31327d2e0a72657475726e2e0a7b6c6162656c2c337d2e0a m.S: label 3: defined twice
 ";
 
-// A hexadecimal digit.
-fn digit(character: u8) -> u8 {
-    match character {
-        b'0'..=b'9' => character - b'0',
-        b'a'..=b'f' => character - b'a' + 10,
-        _ => 0,
-    }
-}
-
-// The bytes that digits spell, two a byte.
-fn bytes_of(alloc: Global, digits: &str) -> Result<Vec<u8>, AllocError> {
-    let mut bytes = Vec::new(alloc);
-    let mut first = None;
-    for character in digits.as_bytes() {
-        let half = digit(*character);
-        first = match first {
-            None => Some(half),
-            Some(high) => {
-                bytes.push(u8::wrapping_add(u8::wrapping_mul(high, 16), half))?;
-                None
-            }
-        };
-    }
-    Ok(bytes)
-}
-
-// What is said of a source.
-fn said_of(alloc: Global, source: Vec<u8>) -> Result<String, AllocError> {
-    let mut files = Vec::new(alloc);
-    files.push((String::from_str(alloc, "m.S")?, source))?;
-    let mut shelf = MemShelf::new(alloc, files, 4096, Vec::new(alloc))?;
-    let mut out = MemSink::new(alloc, 0, Vec::new(alloc))?;
-    let mut err = MemSink::new(alloc, 4096, Vec::new(alloc))?;
-    let mut words = Vec::new(alloc);
-    for word in ["compile", "o", "m.S"] {
-        words.push(String::from_str(alloc, word)?)?;
-    }
-    let _ = erjang(alloc, words.as_slice(), &mut shelf, &mut out, &mut err);
-    match std::str::from_utf8(err.taken()) {
-        Ok(text) => String::from_str(alloc, text),
-        Err(_) => String::from_str(alloc, "no text"),
-    }
-}
-
 #[test]
 fn says_what_another_reading_says(rt: HostRuntime) -> Result<(), Fail> {
+    let alloc = rt.alloc();
     for row in ROWS.lines() {
         let (digits, expected) = row.split_once(' ').ok_or("a row")?;
-        let said = said_of(rt.alloc(), bytes_of(rt.alloc(), digits)?)?;
-        assert_eq!(rt; said.as_str().trim_end(), expected);
+        let source = bytes_of(alloc, digits)?;
+        let ran = run(
+            alloc,
+            &["compile", "o", NAME],
+            source.as_slice(),
+            Vec::new(alloc),
+        )?;
+        let said = ran.err.taken();
+        assert_eq!(rt;
+            said.strip_suffix(b"\n").unwrap_or(said),
+            expected.as_bytes()
+        );
     }
     Ok(())
 }

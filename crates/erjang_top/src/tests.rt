@@ -7,7 +7,7 @@ use std::process::Abort;
 use std::test::Fail;
 
 // The plainest source, with its file's name.
-const NAME: &str = "m.S";
+pub(crate) const NAME: &str = "m.S";
 
 const SOURCE: &str =
     "{module,m}.\n{exports,[{f,1}]}.\n{attributes,[]}.\n{labels,3}.\n{function,f,1,2}.\n{label,1}.\n{func_info,{atom,m},{atom,f},1}.\n{label,2}.\nreturn.\n";
@@ -35,11 +35,11 @@ const USAGE: &[u8] =
 
 /// The outside of one call, and the status that it ended with.
 #[derive(Drop)]
-struct Ran {
-    status: u8,
-    shelf: MemShelf,
-    out: MemSink,
-    err: MemSink,
+pub(crate) struct Ran {
+    pub(crate) status: u8,
+    pub(crate) shelf: MemShelf,
+    pub(crate) out: MemSink,
+    pub(crate) err: MemSink,
 }
 
 fn texts(alloc: Global, words: &[&str]) -> Result<Vec<String>, AllocError> {
@@ -51,7 +51,12 @@ fn texts(alloc: Global, words: &[&str]) -> Result<Vec<String>, AllocError> {
 }
 
 // Calls the program on one file, where the shelf's calls of these numbers fail.
-fn run(alloc: Global, words: &[&str], source: &[u8], fails: Vec<u64>) -> Result<Ran, AllocError> {
+pub(crate) fn run(
+    alloc: Global,
+    words: &[&str],
+    source: &[u8],
+    fails: Vec<u64>,
+) -> Result<Ran, AllocError> {
     let mut files = Vec::new(alloc);
     files.push((
         String::from_str(alloc, NAME)?,
@@ -192,6 +197,21 @@ const FAULTS: &str = r#" ==> form 0: bad form
 {module,m}. {exports,[{f,1}]}. {attributes,[]}. {labels,3}. {function,f,1,3}. {label,1}. {func_info,{atom,m},{atom,f},1}. {label,2}. return. ==> function 0: bad entry
 {module,m}. {exports,[]}. {attributes,[]}. {labels,3}. {function,f,1,2}. {label,1}. {'%',a}. {func_info,{atom,m},{atom,f},1}. {label,2}. return. ==> function 0: bad entry
 {module,''}. {exports,[{f,1}]}. {attributes,[]}. {labels,3}. {function,f,1,2}. {label,1}. {func_info,{atom,''},{atom,f},1}. {label,2}. return. ==> form 0: bad form
+{module,m}. {exports,[{f,1}]}. {attributes,[]}. {labels,3}. {function,f,1,2}. return. ==> function 0: bad entry
+{module,m}. {labels,4294967295}. {exports,[]}. {attributes,1.5}. {function,f,255,4294967295}. ==> function 0: bad entry
+{module,m}. {exports,""}. {attributes,[]}. {labels,3}. {function,f,1,2}. {function,f,2,2}. return. ==> function 0: bad entry
+{module,1}. ==> form 0: bad form
+{module,''}. ==> form 0: bad form
+{module,m,n}. ==> form 0: bad form
+{module,m}. {exports,[{g,1}]}. {attributes,[]}. {labels,3}. {function,f,1,2}. ==> form 1: bad form
+{module,m}. {attributes,[]}. {exports,[{f,2}]}. {labels,3}. {function,f,1,2}. ==> form 2: bad form
+{module,m}. {exports,[]}. {attributes,[]}. {exports,[]}. {labels,3}. ==> form 3: bad form
+{module,m}. {exports,[]}. {attributes,[]}. {labels,4294967296}. ==> form 3: bad form
+{module,m}. {exports,[]}. {attributes,[]}. {labels,3}. return. ==> form 4: bad form
+{module,m}. {exports,[]}. {attributes,[]}. {labels,3}. {function,f,256,2}. ==> form 4: bad form
+{module,m}. {exports,[]}. {attributes,[]}. {labels,3}. {function,f,1,2}. {function,f,1,3}. ==> form 5: bad form
+{module,m}. {exports,[]}. {attributes,[]}. {labels,3}. {function,f,1,2}. return. 1. ==> function 0, instruction 1: bad instruction
+{module,m}. {exports,[]}. {attributes,[]}. {labels,3}. {function,f,1,2}. {function,g,1,2}. foo. ==> function 1, instruction 0: foo outside the profile
 "#;
 
 // What stands behind the entry label 2 of a function f/1, and what is said of it.
@@ -203,6 +223,47 @@ return. {'é€',1}. ==> function 0, instruction 4: é€ outside the profile
 {move,{x,0}}. return. ==> function 0, instruction 3: bad instruction
 return. {function,g,0,4}. {label,3}. {line,[]}. {jump,{f,9}}. ==> function 1: bad entry
 {jump,{f,2}}. ==> not built
+1.5. return. ==> function 0, instruction 3: bad instruction
+[return]. return. ==> function 0, instruction 3: bad instruction
+{}. return. ==> function 0, instruction 3: bad instruction
+send_after. return. ==> function 0, instruction 3: send_after outside the profile
+{move,{literal,1.5},{x,0}}. return. ==> function 0, instruction 3: move outside the profile
+{move,{x,1024},{literal,1.5}}. return. ==> function 0, instruction 3: move outside the profile
+{make_fun2,{f,2},#Ref<0.1>,0,0}. return. ==> function 0, instruction 3: make_fun2 outside the profile
+{line,1.5,0}. return. ==> function 0, instruction 3: line outside the profile
+{'%',1,#Pid<0.1>}. return. ==> function 0, instruction 3: % outside the profile
+{test,is_foo,{f,2},[{literal,1.5}]}. return. ==> function 0, instruction 3: test outside the profile
+{test,is_foo,{f,2},[{x,0}]}. return. ==> function 0, instruction 3: is_foo outside the profile
+{test,is_foo}. return. ==> function 0, instruction 3: is_foo outside the profile
+{test,1,{f,2},[{x,0}]}. return. ==> function 0, instruction 3: bad instruction
+{test,is_atom,{f,0},[{x,0}]}. return. ==> function 0, instruction 3: bad instruction
+{test,has_map_fields,{f,2},{x,0},{list,[{atom,a}]}}. return. ==> not built
+{test,has_map_fields,{f,2},[{x,0}]}. return. ==> function 0, instruction 3: bad instruction
+{test,is_integer,{f,2},[{x,0}]}. return. ==> not built
+{test,is_integer,{f,2},[{x,0},{x,1}]}. return. ==> function 0, instruction 3: bad instruction
+{test,test_arity,{f,2},[{x,0},2]}. return. ==> not built
+{test,test_arity,{f,2},[{x,0},{integer,2}]}. return. ==> function 0, instruction 3: bad instruction
+{test,is_tagged_tuple,{f,2},[{x,0},2,{atom,a}]}. return. ==> not built
+{test,is_tagged_tuple,{f,2},[{x,0},2,a]}. return. ==> function 0, instruction 3: bad instruction
+{bif,foo,{f,0},5,{x,0}}. return. ==> function 0, instruction 3: foo outside the profile
+{bif,foo}. return. ==> function 0, instruction 3: foo outside the profile
+{bif,self,{f,0},5,{x,0}}. return. ==> function 0, instruction 3: bad instruction
+{bif,self,{f,0},[],{x,0}}. return. ==> not built
+{bif,self,{f,0},[{x,0}],{x,0}}. return. ==> function 0, instruction 3: self outside the profile
+{bif,hd,{f,0},"",{x,0}}. return. ==> function 0, instruction 3: hd outside the profile
+{bif,max,{f,0},[{x,0},{x,1}],{x,0}}. return. ==> function 0, instruction 3: max outside the profile
+{bif,raise,{f,0},[{x,2},{x,1}],{x,0}}. return. ==> not built
+{bif,raise,{f,0},[{x,2},{x,1},{x,0}],{x,0}}. return. ==> function 0, instruction 3: raise outside the profile
+{bif,raise,{f,0},5,{x,0}}. return. ==> function 0, instruction 3: bad instruction
+{bif,raise,{f,1},[{x,2},{x,1}],{x,0}}. return. ==> function 0, instruction 3: bad instruction
+{gc_bif,raise,{f,0},0,[{x,2},{x,1}],{x,0}}. return. ==> function 0, instruction 3: raise outside the profile
+{gc_bif,length,{f,0},1024,[{x,0}],{x,0}}. return. ==> not built
+{gc_bif,length,{f,0},1025,[{x,0}],{x,0}}. return. ==> function 0, instruction 3: bad instruction
+{gc_bif,length,{f,0},1,[{x,0},{x,1}],{x,0}}. return. ==> function 0, instruction 3: length outside the profile
+{return}. return. ==> function 0, instruction 3: bad instruction
+badmatch. return. ==> function 0, instruction 3: bad instruction
+{move,{x,1024},{x,0}}. return. ==> function 0, instruction 3: bad instruction
+{move,{x,1023},{x,0}}. return. ==> not built
 "#;
 
 #[test]
@@ -293,7 +354,7 @@ fn status_of(
 
 #[test]
 fn compiles_what_holds_its_terms(rt: HostRuntime) -> Result<(), Fail> {
-    let bodies: [(&str, u8); 24] = [
+    let bodies: [(&str, u8); 25] = [
         ("return.\n", 0),
         // what does nothing has anything in it
         (
@@ -301,6 +362,7 @@ fn compiles_what_holds_its_terms(rt: HostRuntime) -> Result<(), Fail> {
             0,
         ),
         ("{line,[{location,\"m.erl\",7}]}.\nreturn.\n", 0),
+        ("{line,1.5}.\n{'%',#Pid<0.1>}.\nreturn.\n", 0),
         ("", 1),
         // what is read holds a term
         ("{move,{x,1},{x,0}}.\nreturn.\n", 1),

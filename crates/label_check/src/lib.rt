@@ -7,8 +7,6 @@
 
 mod arity;
 mod beginning;
-#[cfg(test)]
-mod cases;
 mod fault;
 mod labels;
 mod named;

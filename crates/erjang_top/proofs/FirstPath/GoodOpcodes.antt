@@ -21,7 +21,7 @@ use Rattle.beam_code.specs.Fits.{fits, fits_found, fits_places, is_register, is_
 use Rattle.beam_code.specs.Opcode as o
 use Rattle.beam_code.proofs.Known.{holds_of_found}
 use Rattle.erjang_top.specs.first_path.Accepted.{is_atom_name}
-use Rattle.erjang_top.proofs.GoodReading.{GoodSrc, EachOperand}
+use Rattle.asm_module.specs.Ranges.{GoodSrc, EachOperand}
 
 -- what a label, a head or a move has in it is in range
 abbrev pub GoodOpcode : o.Opcode → Type 0

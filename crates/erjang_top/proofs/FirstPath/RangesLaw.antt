@@ -20,7 +20,8 @@ use Rattle.asm_module.specs.Terms.{is_word}
 use Rattle.asm_module.specs.declared.fault.FormFault.{FormFault}
 use Rattle.erjang_top.specs.first_path.Ranges.{knows, Ranges, Compiles}
 use Rattle.erjang_top.proofs.GoodTerms.{forms-good}
-use Rattle.erjang_top.proofs.GoodReading.{Bits, EachOperand, EachInstruction, GoodFunction, EachFunction, GoodParts, reading-good}
+use Rattle.asm_module.specs.Ranges.{Bits, EachOperand, EachInstruction, GoodFunction, EachFunction, GoodParts}
+use Rattle.asm_module.proofs.InRange.{reading-good}
 
 -- ---- instructions
 
