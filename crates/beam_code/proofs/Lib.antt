@@ -3,3 +3,5 @@ pub mod FirstBreak
 pub mod Known
 pub mod SameCode
 pub mod PartsLaw
+pub mod BelowLaw
+pub mod FlowBelow

@@ -8,5 +8,14 @@ pub mod Parts
 pub mod Code
 pub mod Labels
 pub mod LabelLaw
+pub mod SlotForm
+pub mod Slots
+pub mod Flow
+pub mod Good
+pub mod FlowLaw
+pub mod Weights
+pub mod Pool
+pub mod WorkedSlots
+pub mod WorkedWeights
 pub mod Worked
 pub mod Places
