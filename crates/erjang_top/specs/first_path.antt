@@ -23,6 +23,7 @@ pub mod SeenExports
 pub mod SeenValues
 pub mod Select
 pub mod SlotCheck
+pub mod Together
 pub mod Typing
 pub mod Worked
 pub mod Written

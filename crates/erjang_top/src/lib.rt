@@ -18,6 +18,6 @@ mod tests;
 mod text_rows;
 mod words;
 
-pub use first_path::laws::read_modules_are_in_range;
+pub use first_path::laws::{classes_run_together, read_modules_are_in_range};
 pub use first_path::scripts::worked_runs;
 pub use program::erjang;

@@ -18,7 +18,8 @@ use Rattle.erjang_top.specs.first_path.Accepted.{Accepted, is_atom_name, is_coun
 use Rattle.erjang_top.specs.first_path.Turn.{end_reason}
 use Rattle.erjang_top.specs.first_path.Weights.{weight, pool_weight}
 use Rattle.erjang_top.specs.first_path.ClassFile.{Method, Class}
-use Rattle.erjang_top.specs.first_path.ClassTurn.{OfTerm, Goes, Held, nothing_held, activation, run_method, Begun, At, after_run, enter, instructions_each, exported, resolved, uncaught, begin_at, turn}
+use Rattle.erjang_top.specs.first_path.ClassTurn.{OfTerm, Goes, Held, nothing_held, activation, run_method, Begun, At, after_run, enter, instructions_each, exported, loaded, resolved, uncaught, begin_at, turn}
+use Rattle.erjang_top.specs.first_path.ClassProfile.{class_at}
 use Rattle.erjang_top.specs.Mangle.{class_name, method_name}
 use Rattle.erjang_top.specs.first_path.ModuleClass.{constants, first_name, method_of, methods_of, body, function_ops}
 use Rattle.erjang_top.proofs.FirstPath.ClassBody.{finished}
@@ -49,28 +50,24 @@ entered_at c name args method = option_map (λ m. record { class = c; method = m
 abbrev goes_to : Class → Method → List Term → Goes
 goes_to c method args = record { class = c; method = method; entry = 0; entered = map (λ t. OfTerm t) args }
 
--- the class is loaded where its module is
-resolves : (m : Module) (c : Class) → IsOf m c → (owner name : List ℕ) (args : List Term) → resolved (c ∷ []) owner name args
-    ≡ (if bytes_eq m.name owner then entered_at c name args (exported c (method_name name (length args)) (methods_of m (constants m) (first_name (constants m)) m.functions)) else None)
-resolves m c is owner name args =
-    ap (λ o. option_and_then (λ k. entered_at k name args (exported k (method_name name (length args)) k.methods)) (if bytes_eq (unwrap_or o []) (class_name owner) then Some c else None)) is.name
-    ∙ ap (λ b. option_and_then (λ k. entered_at k name args (exported k (method_name name (length args)) k.methods)) (if b then Some c else None)) (class-test m.name owner)
-    ∙ by (bytes_eq m.name owner)
-  where
-    by : (b : Bool) → option_and_then (λ k. entered_at k name args (exported k (method_name name (length args)) k.methods)) (if b then Some c else None)
-        ≡ (if b then entered_at c name args (exported c (method_name name (length args)) (methods_of m (constants m) (first_name (constants m)) m.functions)) else None)
-    by true = ap (λ ms. entered_at c name args (exported c (method_name name (length args)) ms)) is.methods
-    by false = refl
+-- the class of a module has the module's name
+pub class-here : (m : Module) (c : Class) → IsOf m c → (owner : List ℕ) → bytes_eq (unwrap_or (class_at c.pool c.this) []) (class_name owner) ≡ bytes_eq m.name owner
+class-here m c is owner = ap (λ o. bytes_eq (unwrap_or o []) (class_name owner)) is.name ∙ class-test m.name owner
 
-pub not-loaded : (m : Module) (c : Class) → IsOf m c → (owner name : List ℕ) (args : List Term) → bytes_eq m.name owner ≡ false → resolved (c ∷ []) owner name args ≡ None
-not-loaded m c is owner name args away =
-    resolves m c is owner name args ∙ ap (λ b. if b then entered_at c name args (exported c (method_name name (length args)) (methods_of m (constants m) (first_name (constants m)) m.functions)) else None) away
+-- a loaded class is entered at its public method
+resolves : (cs : List Class) (m : Module) (c : Class) → IsOf m c → (owner name : List ℕ) (args : List Term) → loaded owner cs ≡ Some c
+    → resolved cs owner name args ≡ entered_at c name args (exported c (method_name name (length args)) (methods_of m (constants m) (first_name (constants m)) m.functions))
+resolves cs m c is owner name args here =
+    ap (option_and_then (λ k. entered_at k name args (exported k (method_name name (length args)) k.methods))) here
+    ∙ ap (λ ms. entered_at c name args (exported c (method_name name (length args)) ms)) is.methods
 
-pub not-exported : (m : Module) (c : Class) → IsOf m c → list_all is_thin_function m.functions ≡ true → (owner name : List ℕ) (args : List Term) → length args ≤ 255
-    → bytes_eq m.name owner ≡ true → is_among m.exports (name, length args) ≡ false → resolved (c ∷ []) owner name args ≡ None
-not-exported m c is thin owner name args few here private =
-    resolves m c is owner name args
-    ∙ ap (λ b. if b then entered_at c name args (exported c (method_name name (length args)) (methods_of m (constants m) (first_name (constants m)) m.functions)) else None) here
+pub not-loaded : (cs : List Class) (owner name : List ℕ) (args : List Term) → loaded owner cs ≡ None → resolved cs owner name args ≡ None
+not-loaded cs owner name args none = ap (option_and_then (λ k. entered_at k name args (exported k (method_name name (length args)) k.methods))) none
+
+pub not-exported : (cs : List Class) (m : Module) (c : Class) → IsOf m c → list_all is_thin_function m.functions ≡ true → (owner name : List ℕ) (args : List Term) → length args ≤ 255
+    → loaded owner cs ≡ Some c → is_among m.exports (name, length args) ≡ false → resolved cs owner name args ≡ None
+not-exported cs m c is thin owner name args few here private =
+    resolves cs m c is owner name args here
     ∙ ap (entered_at c name args) (none-exported m c (constants m) (first_name (constants m)) m.functions name (length args) is.names thin (omega (arith, few)) private)
 
 -- ---- its turn
@@ -89,20 +86,18 @@ ends c method more me left left' args end ran =
     by (Returned t) = record { events = refl; outcome = refl }
     by Refused = record { events = refl; outcome = refl }
 
-pub class-runs : (m : Module) (c : Class) → Accepted m → IsOf m c → list_all is_thin_function m.functions ≡ true → (me n : ℕ) (owner name : List ℕ) (args : List Term) → length args ≤ 255
-    → 0 < n → bytes_eq m.name owner ≡ true → is_among m.exports (name, length args) ≡ true → (f : Found (name, length args) m.functions)
-    → Does (turn (c ∷ []) me n (Begun (how_of owner name args))) (events_of me (ending (given args) (body f.function))) (reason_of (ending (given args) (body f.function)))
-class-runs m c a is thin me n owner name args few some here public' f =
+pub class-runs : (cs : List Class) (m : Module) (c : Class) → Accepted m → IsOf m c → list_all is_thin_function m.functions ≡ true → (me n : ℕ) (owner name : List ℕ) (args : List Term) → length args ≤ 255
+    → 0 < n → loaded owner cs ≡ Some c → is_among m.exports (name, length args) ≡ true → (f : Found (name, length args) m.functions)
+    → Does (turn cs me n (Begun (how_of owner name args))) (events_of me (ending (given args) (body f.function))) (reason_of (ending (given args) (body f.function)))
+class-runs cs m c a is thin me n owner name args few some here public' f =
     let key : Key = (name, length args) in
     let g : Function = f.function in
     let values = constants m in
     let count : length args ≡ g.arity = ap (λ (k : Key). k.1) (same-keys key (key_of g) f.here) in
     let to = found-exported m c values (first_name values) m.functions name (length args) f is.names thin (omega (arith, few)) public' in
     let method : Method = method_of m values to.index g in
-    let entered : resolved (c ∷ []) owner name args ≡ Some (goes_to c method args) =
-    resolves m c is owner name args
-    ∙ ap (λ b. if b then entered_at c name args (exported c (method_name name (length args)) (methods_of m values (first_name values) m.functions)) else None) here
-    ∙ ap (entered_at c name args) to.is in
+    let entered : resolved cs owner name args ≡ Some (goes_to c method args) =
+    resolves cs m c is owner name args here ∙ ap (entered_at c name args) to.is in
     let held : Held = nothing_held (map (λ t. OfTerm t) args) in
     let fits = and_parts (list_all (λ h. nat_le (weight h) 32767) m.functions) (nat_le (pool_weight m) 65534) a.sizes in
     let labels = and_parts (list_all (begins_well m.name) m.functions) (no_label_twice (labels_of m)) (accepted_rules m a) in
@@ -119,5 +114,5 @@ class-runs m c a is thin me n owner name args few some here public' f =
     ∙ runs-function c method me values is.runtime is.entries g (budget - length ops) args held refl refl count refl
     (slotted-flows m.name g (test-of-found key m.functions (begins_well m.name) f labels.0) (all-of-found key m.functions WellSlotted f a.slots))
     (all-of-found key m.functions (λ h. AllByRecursion (IsAmong values) (body h)) f (values-among m)) all-thin in
-    does-same (begins (c ∷ []) me n owner name args ∙ ap (begin_at me n (Begun (how_of owner name args))) entered ∙ ap (λ k. enter k me budget (goes_to c method args) held) transfers)
+    does-same (begins cs me n owner name args ∙ ap (begin_at me n (Begun (how_of owner name args))) entered ∙ ap (λ k. enter k me budget (goes_to c method args) held) transfers)
     (ends c method (n - 1) me budget (budget - length ops) args (ending (given args) (body g)) ran)
