@@ -1,0 +1,17 @@
+pub mod Entries
+pub mod Fault
+pub mod ModifiedUtf8
+pub mod ModifiedUtf8Due
+pub mod NamePlaces
+pub mod Names
+pub mod OpcodeRows
+pub mod Opcodes
+pub mod Padding
+pub mod ReadClass
+pub mod ReadOps
+pub mod ReadPool
+pub mod Reader
+pub mod Runtime
+pub mod RuntimeRows
+pub mod Spelling
+pub mod Types
