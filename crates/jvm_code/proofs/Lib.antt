@@ -1,1 +1,4 @@
+pub mod Moves
+pub mod MovesOps
+pub mod SignedEq
 pub mod Utf8Test

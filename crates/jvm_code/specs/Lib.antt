@@ -1,3 +1,5 @@
+pub mod ConstantKey
+pub mod ConstantLaws
 pub mod Entries
 pub mod Fault
 pub mod ModifiedUtf8

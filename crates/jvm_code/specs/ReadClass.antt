@@ -1,6 +1,6 @@
 -- Reading a class (JVMS SE 7, chapter 4), in the profile of version 50.0: the class that bytes stand for, or the first
 -- field that fails, at its first byte.
-use Rattle.std.specs.Prelude.{◌≡◌, ℕ, zero, suc, Bool, true, false, nat_eq, nat_le, nat_lt, not, ◌&&◌, ◌||◌, if◌then◌else◌, bit_and, List, [], ◌∷◌, codes, Option, None, Some, unwrap_or, Result, Ok, Err}
+use Rattle.std.specs.Prelude.{◌≡◌, ℕ, zero, suc, Bool, true, false, nat_eq, nat_le, nat_lt, not, ◌&&◌, ◌||◌, if◌then◌else◌, bit_and, List, [], ◌∷◌, ◌++◌, codes, Option, None, Some, unwrap_or, Result, Ok, Err}
 use Rattle.std.specs.List.{list_any}
 use Rattle.std.specs.Str.{bytes_eq}
 use Rattle.ej_tables.specs.Bytes.{AreBytes}
@@ -31,23 +31,33 @@ none = field u2 (λ n. forbidden_unless (nat_eq n 0))
 
 -- ---- the attribute `Code` (4.7.3)
 
--- the instructions, behind their length in bytes
+-- the length of the code in bytes
+abbrev pub code_length : Reader ℕ
+code_length = field u4 (λ n. broken_unless (nat_lt 0 n && nat_le n 65535))
+
+-- the instructions, behind their length
 abbrev pub instructions : List Constant → Reader (List (ℕ × Op))
-instructions pool = then_read (field u4 (λ n. broken_unless (nat_lt 0 n && nat_le n 65535))) (code pool)
+instructions pool = then_read code_length (code pool)
+
+abbrev pub map_name : List Constant → Reader ℕ
+map_name pool = field u2 (λ i. forbidden_unless (is_text (codes "StackMapTable") (utf8_at pool i)))
 
 -- a `StackMapTable` (4.7.4), by its name's index, with its content as bytes
 abbrev pub map : List Constant → Reader (Option (ℕ × List ℕ))
 map pool =
-    then_read (field u2 (λ i. forbidden_unless (is_text (codes "StackMapTable") (utf8_at pool i)))) (λ name.
+    then_read (map_name pool) (λ name.
     read_as (λ content. Some (name, content)) (then_read u4 bytes))
 
 abbrev pub counted_maps : List Constant → ℕ → Reader (Option (ℕ × List ℕ))
 counted_maps pool zero = done None
 counted_maps pool (suc n) = map pool
 
--- at most one attribute of the code
+-- how many attributes the code has: at most one
+abbrev pub map_count : Reader ℕ
+map_count = field u2 (λ n. forbidden_unless (nat_le n 1))
+
 abbrev pub maps : List Constant → Reader (Option (ℕ × List ℕ))
-maps pool = then_read (field u2 (λ n. forbidden_unless (nat_le n 1))) (counted_maps pool)
+maps pool = then_read map_count (counted_maps pool)
 
 pub record Content : Type 0 where
   pub max_stack : ℕ
@@ -86,45 +96,60 @@ is_taken pool before name = list_any (bytes_eq (name_of pool name)) before
 abbrev pub method_flags : Reader ℕ
 method_flags = field u2 (λ n. forbidden_unless (nat_eq n 0x0009 || nat_eq n 0x000A))
 
+abbrev pub attribute_count : Reader ℕ
+attribute_count = field u2 (λ n. forbidden_unless (nat_eq n 1))
+
+abbrev pub code_name : List Constant → Reader ℕ
+code_name pool = field u2 (λ i. text_that (λ text. bytes_eq text (codes "Code")) (utf8_at pool i))
+
 -- the one attribute of a method, by its name's index, with its length
 abbrev pub attribute : List Constant → Reader (ℕ × Content)
 attribute pool =
-    then_read (field u2 (λ n. forbidden_unless (nat_eq n 1))) (λ _.
-    then_read (field u2 (λ i. text_that (λ text. bytes_eq text (codes "Code")) (utf8_at pool i))) (λ name.
+    then_read attribute_count (λ _.
+    then_read (code_name pool) (λ name.
     read_as (λ content. (name, content)) (sized (content pool))))
 
-abbrev pub method_of : (flags name descriptor : ℕ) → ℕ × Content → Method
-method_of flags name descriptor (code_name, content) = record {
+abbrev pub method_of : (flags name described : ℕ) → ℕ × Content → Method
+method_of flags name described (named, parts) = record {
   flags = flags;
   name = name;
-  descriptor = descriptor;
-  code_name = code_name;
-  max_stack = content.max_stack;
-  max_locals = content.max_locals;
-  code = content.code;
-  maps = content.maps;
+  descriptor = described;
+  code_name = named;
+  max_stack = parts.max_stack;
+  max_locals = parts.max_locals;
+  code = parts.code;
+  maps = parts.maps;
 }
+
+abbrev pub method_name : List Constant → (flags : ℕ) → Reader ℕ
+method_name pool flags = field u2 (λ i. text_that (is_method_name flags) (utf8_at pool i))
+
+abbrev pub descriptor : List Constant → (taken : Bool) → Reader ℕ
+descriptor pool taken = field u2 (λ i. descriptor_that taken (utf8_at pool i))
 
 -- a method behind those of these names
 abbrev pub method : List Constant → (before : List (List ℕ)) → Reader Method
 method pool before =
     then_read method_flags (λ flags.
-    then_read (field u2 (λ i. text_that (is_method_name flags) (utf8_at pool i))) (λ name.
-    then_read (field u2 (λ i. descriptor_that (is_taken pool before name) (utf8_at pool i))) (λ descriptor.
-    read_as (method_of flags name descriptor) (attribute pool))))
+    then_read (method_name pool flags) (λ name.
+    then_read (descriptor pool (is_taken pool before name)) (λ d.
+    read_as (method_of flags name d) (attribute pool))))
 
 abbrev pub methods : List Constant → (before : List (List ℕ)) → ℕ → Reader (List Method)
 methods pool before zero = done []
-methods pool before (suc n) = then_read (method pool before) (λ m. read_as (λ ms. m ∷ ms) (methods pool (name_of pool m.name ∷ before) n))
+methods pool before (suc n) = then_read (method pool before) (λ m. read_as (λ ms. m ∷ ms) (methods pool (before ++ name_of pool m.name ∷ []) n))
 
 -- ---- the class (4.1)
 
 abbrev pub magic : Reader ℕ
 magic = field u4 (λ n. broken_unless (nat_eq n 0xCAFEBABE))
 
+abbrev pub major : Reader ℕ
+major = field u2 (λ n. forbidden_unless (nat_eq n 50))
+
 -- the minor and the major version
 abbrev pub version : Reader ℕ
-version = then_read none (λ _. field u2 (λ n. forbidden_unless (nat_eq n 50)))
+version = then_read none (λ _. major)
 
 -- no flags but public, final and super
 abbrev pub class_flags : Reader ℕ
@@ -133,8 +158,11 @@ class_flags = field u2 (λ n. forbidden_unless (nat_eq (bit_and n 0x0031) n))
 abbrev pub this : List Constant → Reader ℕ
 this pool = field u2 (λ i. text_that is_class_name (class_at pool i))
 
+abbrev pub is_object : List ℕ → Bool
+is_object text = bytes_eq text (codes "java/lang/Object")
+
 abbrev pub above : List Constant → Reader ℕ
-above pool = field u2 (λ i. text_that (λ text. bytes_eq text (codes "java/lang/Object")) (class_at pool i))
+above pool = field u2 (λ i. text_that is_object (class_at pool i))
 
 abbrev pub class_of : List Constant → (flags this above : ℕ) → List Method → Class
 class_of pool flags this above methods = record { flags = flags; pool = pool; this = this; above = above; methods = methods }

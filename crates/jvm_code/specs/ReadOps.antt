@@ -26,6 +26,18 @@ abbrev pub callable : Option Constant → Verdict
 callable (Some (c.Methodref _ _)) = Fine
 callable _ = Broken
 
+abbrev pub ldc : List Constant → Reader Op
+ldc pool = read_as o.Ldc (field u1 (λ i. loadable (slice_get pool i)))
+
+abbrev pub ldc_w : List Constant → Reader Op
+ldc_w pool = read_as o.LdcW (field u2 (λ i. loadable (slice_get pool i)))
+
+abbrev pub ldc2_w : List Constant → Reader Op
+ldc2_w pool = read_as o.Ldc2W (field u2 (λ i. loadable_wide (slice_get pool i)))
+
+abbrev pub invoke : List Constant → Reader Op
+invoke pool = read_as o.Invoke (field u2 (λ i. callable (slice_get pool i)))
+
 -- a null, an integer, or an entry of the pool is pushed
 abbrev pub constant : List Constant → ℕ → Reader Op
 constant pool opcode =
@@ -33,9 +45,9 @@ constant pool opcode =
     else if nat_le 2 opcode && nat_le opcode 8 then done (o.IConst (pos opcode -ℤ pos 3))
     else if nat_eq opcode 16 then read_as o.Bipush s1
     else if nat_eq opcode 17 then read_as o.Sipush s2
-    else if nat_eq opcode 18 then read_as o.Ldc (field u1 (λ i. loadable (slice_get pool i)))
-    else if nat_eq opcode 19 then read_as o.LdcW (field u2 (λ i. loadable (slice_get pool i)))
-    else if nat_eq opcode 20 then read_as o.Ldc2W (field u2 (λ i. loadable_wide (slice_get pool i)))
+    else if nat_eq opcode 18 then ldc pool
+    else if nat_eq opcode 19 then ldc_w pool
+    else if nat_eq opcode 20 then ldc2_w pool
     else outside
 
 -- a local is loaded
@@ -94,21 +106,28 @@ table_switch =
 abbrev pub pair : Reader (ℤ × ℤ)
 pair = then_read s4 (λ value. read_as (λ offset. (value, offset)) s4)
 
-abbrev pub rises_from : ℤ → List (ℤ × ℤ) → Bool
-rises_from value [] = true
-rises_from value (p ∷ pairs) = int_lt value p.0 && rises_from p.0 pairs
+-- the value is above the one before, if there is one
+abbrev pub is_above : Option ℤ → ℤ → Bool
+is_above None value = true
+is_above (Some before) value = int_lt before value
+
+abbrev pub rise_above : Option ℤ → List (ℤ × ℤ) → Bool
+rise_above before [] = true
+rise_above before (p ∷ pairs) = is_above before p.0 && rise_above (Some p.0) pairs
 
 -- each value is above the one before
 abbrev pub rises : List (ℤ × ℤ) → Bool
-rises [] = true
-rises (p ∷ pairs) = rises_from p.0 pairs
+rises pairs = rise_above None pairs
+
+-- a signed count, which is not negative
+abbrev pub pair_count : Reader ℕ
+pair_count = field u4 (λ n. broken_unless (nat_lt n (2 ^ 31)))
 
 abbrev pub lookup_switch : Reader Op
 lookup_switch =
     then_read padded (λ _.
     then_read s4 (λ default.
-    -- a signed count, which is not negative
-    then_read (field u4 (λ n. broken_unless (nat_lt n (2 ^ 31)))) (λ n.
+    then_read pair_count (λ n.
     read_as (o.LookupSwitch default) (field (times n pair) (λ pairs. broken_unless (rises pairs))))))
 
 -- an instruction on a local of two bytes, by the opcode behind `wide`
@@ -120,13 +139,16 @@ widened opcode =
     else if nat_eq opcode 58 then read_as (o.AStore w.Wide) u2
     else outside
 
+abbrev pub wide : Reader Op
+wide = then_read u1 widened
+
 abbrev pub control : List Constant → ℕ → Reader Op
 control pool opcode =
     if nat_eq opcode 170 then table_switch
     else if nat_eq opcode 171 then lookup_switch
     else if nat_eq opcode 172 then done o.IReturn
-    else if nat_eq opcode 184 then read_as o.Invoke (field u2 (λ i. callable (slice_get pool i)))
-    else if nat_eq opcode 196 then then_read u1 widened
+    else if nat_eq opcode 184 then invoke pool
+    else if nat_eq opcode 196 then wide
     else if nat_eq opcode 198 then read_as (o.IfNull true) s2
     else if nat_eq opcode 199 then read_as (o.IfNull false) s2
     else outside

@@ -116,7 +116,10 @@ abbrev pub times : {A : Type 0} → ℕ → Reader A → Reader (List A)
 times zero r = done []
 times (suc n) r = then_read r (λ x. then_read (times n r) (λ xs. done (x ∷ xs)))
 
--- zeros: another byte is outside the profile
+-- a zero: another byte is outside the profile
+abbrev pub pad_byte : Reader ℕ
+pad_byte = field u1 (λ b. forbidden_unless (nat_eq b 0))
+
 abbrev pub padding : ℕ → Reader (Unit {0})
 padding zero = done tt
-padding (suc n) = then_read (field u1 (λ b. forbidden_unless (nat_eq b 0))) (λ _. padding n)
+padding (suc n) = then_read pad_byte (λ _. padding n)

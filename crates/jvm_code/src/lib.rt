@@ -5,6 +5,7 @@
 #![tactic(auto)]
 
 mod class;
+mod constant;
 mod methods;
 mod modified_utf8;
 mod names;

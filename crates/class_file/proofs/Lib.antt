@@ -1,0 +1,6 @@
+pub mod ClassRead
+pub mod EntriesRead
+pub mod MethodsRead
+pub mod OpsRead
+pub mod PaddingRead
+pub mod TimesRead
