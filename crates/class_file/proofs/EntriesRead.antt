@@ -2,7 +2,9 @@
 use Rattle.std.proofs.Common.{◌≡◌, ℕ, zero, suc, ◌+◌, ◌-◌, ◌<◌, Bool, List, [], ◌∷◌, ◌++◌, Result, Ok, Err, refl, sym, ap, ◌∙◌, append_assoc, append-nil, arith}
 use Rattle.jvm_code.specs.declared.class.Constant.{Constant}
 use Rattle.jvm_code.specs.Fault.{Fault}
-use Rattle.jvm_code.specs.ReadPool.{next_entry, entries, is_long}
+use Rattle.std.specs.List.{sum_by}
+use Rattle.std.proofs.lemmas.List.Sums.{sum_by_push}
+use Rattle.jvm_code.specs.ReadPool.{next_entry, entries, is_long, entry_size}
 use Rattle.jvm_code.specs.Reader.{Got, done, go_on, then_read, read_as}
 use Rattle.class_file.specs.declared.fault.ClassFault.{ClassFault}
 use Rattle.class_file.specs.declared.fault.ClassFault.TheVariants.{NotClass, OutsideProfile, NoMemory}
@@ -40,3 +42,7 @@ stops pool due left at rest fault all l i g = go fault g
 pub at_end : (pool : List Constant) (due : Bool) (left at : ℕ) (rest : List ℕ) (all : Got (List Constant)) → left ≡ 0
     → onto pool (entries due left at rest) ≡ all → all ≡ Ok (pool, at, rest)
 at_end pool due left at rest all l i = sym i ∙ ap (λ n. onto pool (entries due n at rest)) l ∙ ap (λ es. Ok (es, at, rest)) (append-nil pool)
+
+-- the sizes of one entry more
+pub size_push : (pool : List Constant) (e : Constant) (from at to : ℕ) → at ≡ from + sum_by entry_size pool → to ≡ at + entry_size e → to ≡ from + sum_by entry_size (pool ++ e ∷ [])
+size_push pool e from at to h k = omega (arith, h, k, sum_by_push entry_size pool e)

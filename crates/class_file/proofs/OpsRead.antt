@@ -1,5 +1,5 @@
 -- How the loop over instructions goes on.
-use Rattle.std.proofs.Common.{◌≡◌, ℕ, zero, suc, ◌+◌, ◌-◌, ◌<◌, ◌≤◌, List, [], ◌∷◌, ◌++◌, length, Result, Ok, Err, refl, sym, ap, ◌∙◌, append_assoc, append-nil, arith}
+use Rattle.std.proofs.Common.{◌≡◌, ℕ, zero, suc, ◌+◌, ◌-◌, ◌<◌, ◌≤◌, List, [], ◌∷◌, ◌++◌, length, Result, Ok, Err, refl, sym, ap, ◌∙◌, subst, append_assoc, append-nil, arith}
 use Rattle.jvm_code.specs.declared.class.Constant.{Constant}
 use Rattle.jvm_code.specs.declared.class.Op.{Op}
 use Rattle.jvm_code.specs.Fault.{Fault}
@@ -11,6 +11,7 @@ use Rattle.class_file.specs.declared.fault.ClassFault.{ClassFault}
 use Rattle.class_file.specs.declared.fault.ClassFault.TheVariants.{NotClass, OutsideProfile, NoMemory}
 use Rattle.class_file.specs.Gave.{Failed}
 use Rattle.class_file.specs.Moved.{moved_to}
+use Rattle.class_file.specs.Place.{Place}
 
 abbrev pub Ops : Type 0
 Ops = Result (List (ℕ × Op)) Fault
@@ -74,3 +75,19 @@ none_left fuel pool start pc (b ∷ bs) l = absurd (omega (arith, l))
 pub at_end : (pool : List Constant) (start size : ℕ) (front : List (ℕ × Op)) (pc : ℕ) (rest : List ℕ) (all : Ops)
     → Goes pool start size front pc rest all → length rest ≡ 0 → all ≡ Ok front
 at_end pool start size front pc rest all g l = sym g.told ∙ ap (behind front) (none_left g.fuel pool start pc rest l) ∙ ap (λ c. Ok c) (append-nil front)
+
+-- the same, by what the loop holds
+
+pub begun : (pool : List Constant) (start : ℕ) (code : List ℕ) (front : List (ℕ × Op)) (place : Place) → front ≡ [] → place ≡ record { at = 0; rest = code }
+    → Goes pool start (length code) front place.at place.rest (ops (length code) pool start 0 code)
+begun pool start code front place f p =
+    subst (λ (p : Place). Goes pool start (length code) front p.at p.rest (ops (length code) pool start 0 code)) (sym p)
+        (subst (λ (f : List (ℕ × Op)). Goes pool start (length code) f 0 code (ops (length code) pool start 0 code)) (sym f) (begins pool start code))
+
+pub goes_to : (pool : List Constant) (start size : ℕ) (front next : List (ℕ × Op)) (pc at : ℕ) (rest : List ℕ) (all : Ops) (x : Op) (to : ℕ) (left : List ℕ)
+    → Goes pool start size front pc rest all → at ≡ pc → next ≡ front ++ (at, x) ∷ [] → 0 < length rest → op pool pc rest ≡ Ok (x, to, left) → Goes pool start size next to left all
+goes_to pool start size front next pc at rest all x to left g a n l h =
+    subst (λ (f : List (ℕ × Op)). Goes pool start size f to left all) (sym (n ∙ ap (λ a. front ++ (a, x) ∷ []) a)) (goes_on pool start size front pc rest all x to left g l h)
+
+pub shorter : (pool : List Constant) (pc : ℕ) (rest : List ℕ) (x : Op) (to : ℕ) (left : List ℕ) → op pool pc rest ≡ Ok (x, to, left) → length left < length rest
+shorter pool pc rest x to left h = let m = moves_op pool pc rest x to left h in omega (arith, m.0, m.1)

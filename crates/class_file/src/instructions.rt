@@ -63,7 +63,7 @@ fn op(alloc: Global, pool: &[Constant], source: &mut Source<'_>) -> Result<Op, C
 }
 
 /// The instructions of code that begins at the offset `start`, each with its offset in the code.
-#[tactic(auto, using(crate::proofs::OpsRead::begins, crate::proofs::OpsRead::at_end, crate::proofs::OpsRead::goes_on, crate::proofs::OpsRead::stops))]
+#[tactic(auto, using(crate::proofs::OpsRead::at_end, crate::proofs::OpsRead::stops))]
 fn ops(
     alloc: Global,
     pool: &[Constant],

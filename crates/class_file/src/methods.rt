@@ -22,7 +22,8 @@ use sqlite_items::Items;
 use std::alloc::{AllocError, Global};
 
 /// The content of an attribute `Code`.
-struct Content {
+#[derive(Drop)]
+struct CodeContent {
     max_stack: u16,
     max_locals: u16,
     code: Items<(u16, Op)>,
@@ -134,7 +135,7 @@ fn content(
     alloc: Global,
     pool: &[Constant],
     source: &mut Source<'_>,
-) -> Result<Content, ClassFault>
+) -> Result<CodeContent, ClassFault>
     ensures { Gave content_of (spec.content pool.now source.old.at source.old.rest) result source.new }
 {
     let max_stack = source.u2()?;
@@ -142,7 +143,7 @@ fn content(
     let code = instructions(alloc, pool, source)?;
     none(source)?;
     let maps = maps(alloc, pool, source)?;
-    Ok(Content {
+    Ok(CodeContent {
         max_stack,
         max_locals,
         code,
@@ -155,7 +156,7 @@ fn sized_content(
     alloc: Global,
     pool: &[Constant],
     source: &mut Source<'_>,
-) -> Result<Content, ClassFault>
+) -> Result<CodeContent, ClassFault>
     ensures { Gave content_of (reader.sized (spec.content pool.now) source.old.at source.old.rest) result source.new }
 {
     let at = source.at();
@@ -201,7 +202,7 @@ fn attribute(
     alloc: Global,
     pool: &[Constant],
     source: &mut Source<'_>,
-) -> Result<(u16, Content), ClassFault>
+) -> Result<(u16, CodeContent), ClassFault>
     ensures { Gave attribute_of (spec.attribute pool.now source.old.at source.old.rest) result source.new }
 {
     attribute_count(source)?;
@@ -303,6 +304,31 @@ fn add_name<'a>(names: &mut Names<'a>, name: &'a [u8]) -> Result<(), AllocError>
     Ok(())
 }
 
+/// The method of these flags and indices, with its attribute.
+fn method_of(
+    alloc: Global,
+    pool: &[Constant],
+    flags: u16,
+    name: u16,
+    descriptor: u16,
+    source: &mut Source<'_>,
+) -> Result<Method, ClassFault>
+    ensures read { Gave (λ m. m) (reader.read_as (spec.method_of flags name descriptor) (spec.attribute pool.now) source.old.at source.old.rest) result source.new }
+    ensures named { IfOk result (λ m. m.name ≡ name) }
+{
+    let (code_name, content) = attribute(alloc, pool, source)?;
+    Ok(Method {
+        flags,
+        name,
+        descriptor,
+        code_name,
+        max_stack: content.max_stack,
+        max_locals: content.max_locals,
+        code: content.code,
+        maps: content.maps,
+    })
+}
+
 /// A method behind those of these names, to which its own is put.
 fn method<'a>(
     alloc: Global,
@@ -318,18 +344,8 @@ fn method<'a>(
     let text = name_of(pool, name);
     let taken = is_taken(names, text);
     let descriptor = descriptor(pool, taken, source)?;
-    let (code_name, content) = attribute(alloc, pool, source)?;
     add_name(names, text)?;
-    Ok(Method {
-        flags,
-        name,
-        descriptor,
-        code_name,
-        max_stack: content.max_stack,
-        max_locals: content.max_locals,
-        code: content.code,
-        maps: content.maps,
-    })
+    method_of(alloc, pool, flags, name, descriptor, source)
 }
 
 /// So many methods.

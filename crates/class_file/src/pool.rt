@@ -128,7 +128,7 @@ fn next_entry(
 }
 
 /// What stands at so many indices, of which the first is a gap.
-#[tactic(auto, using(crate::proofs::EntriesRead::at_end, crate::proofs::EntriesRead::step_on, crate::proofs::EntriesRead::stops))]
+#[tactic(auto, using(crate::proofs::EntriesRead::at_end, crate::proofs::EntriesRead::step_on, crate::proofs::EntriesRead::stops, crate::proofs::EntriesRead::size_push))]
 fn entries(
     alloc: Global,
     count: u16,
@@ -159,7 +159,7 @@ fn entry_size(entry: &Constant) -> usize
 {
     match entry {
         Constant::Gap => 0,
-        Constant::Utf8(bytes) => bytes.len() + 3,
+        Constant::Utf8(bytes) => bytes.as_slice().len() + 3,
         Constant::Integer(_) | Constant::Methodref(_, _) | Constant::NameAndType(_, _) => 5,
         Constant::Long(_) => 9,
         Constant::Class(_) | Constant::Str(_) => 3,

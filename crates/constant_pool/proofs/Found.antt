@@ -1,10 +1,12 @@
 -- An entry is found at its index.
-use Rattle.std.proofs.Common.{◌≡◌, ℕ, zero, suc, ◌+◌, Bool, true, false, cond, if◌then◌else◌, List, [], ◌∷◌, ◌++◌, length, Option, None, Some, refl, sym, ap, ◌∙◌, subst, arith, length-append, append_assoc, append-nil}
+use Rattle.std.proofs.Common.{◌≡◌, ℕ, zero, suc, ◌+◌, ◌<◌, ◌^◌, Bool, true, false, cond, if◌then◌else◌, List, [], ◌∷◌, ◌++◌, length, Option, None, Some, refl, sym, ap, ◌∙◌, subst, arith, length-append, append_assoc, append-nil}
 use Rattle.std.specs.Map.{lookup}
 use Rattle.jvm_code.specs.declared.class.Constant.{Constant}
 use Rattle.jvm_code.specs.declared.class.Constant.TheVariants as c
 use Rattle.jvm_code.specs.ConstantKey.{same_constant}
-use Rattle.constant_pool.specs.Pool.{indices, place_from, place_of, listed, pool_of, is_gap, AreNumbered, IsPool}
+use Rattle.indexmap.specs.IndexMap.{IndexMap, insert_entry}
+use Rattle.indexmap.proofs.CallerLemmas.{insert_entry-new}
+use Rattle.constant_pool.specs.Pool.{IndexedAt, indices, place_from, place_of, listed, pool_of, is_gap, AreNumbered, IsPool}
 
 no_gap : (e : Constant) → is_gap e ≡ false → same_constant e c.Gap ≡ false
 no_gap (c.Utf8 _) h = refl
@@ -77,3 +79,15 @@ pool_push ps new e next behind is n h b =
     (one, record {
         numbered = subst (AreNumbered 1) (sym n) (numbered_push 1 ps e next is.numbered gap (omega (arith, is.next_is)));
         next_is = omega (arith, b, is.next_is, ap length one, length-append (pool_of ps) (indices e)) })
+
+-- a new entry goes last
+pub inserted : {S : Type 0} (m : IndexMap Constant ℕ S) (new : List (Constant × ℕ)) (e : Constant) (n : ℕ) → AreNumbered 1 m.entries → place_of e (pool_of m.entries) ≡ None
+    → new ≡ insert_entry same_constant m.entries e n → new ≡ m.entries ++ (e, n) ∷ []
+inserted m new e n a h i = i ∙ insert_entry-new same_constant m e n (none_found e m.entries a h)
+
+pub indexed_new : (old : List Constant) (ps new : List (Constant × ℕ)) (e : Constant) (next behind : ℕ) → pool_of ps ≡ old → IsPool ps next → new ≡ ps ++ (e, next) ∷ []
+    → place_of e old ≡ None → behind ≡ next + length (indices e) → behind < 2 ^ 16 → IndexedAt (place_of e old) old e next (pool_of new)
+indexed_new old ps new e next behind v is n h b s =
+    let p = pool_push ps new e next behind is n (ap (place_of e) v ∙ h) b in
+    subst (λ (o : Option ℕ). IndexedAt o old e next (pool_of new)) (sym h)
+        (is.next_is ∙ ap length v, p.0 ∙ ap (λ l. l ++ indices e) v, omega (arith, is.next_is, ap length v, b, s))

@@ -1,9 +1,8 @@
 //! The pool.
 
-ghost use Rattle.std.specs.Prelude.{◌≡◌, [], ◌∷◌, ◌++◌, None, reverse, IfOk, IfErr, OnOk};
+ghost use Rattle.std.specs.Prelude.{◌≡◌, [], ◌∷◌, ◌++◌, None, reverse, IfOk, OnErr, OnOk};
 ghost use Rattle.constant_pool.specs.Pool as spec;
 ghost use Rattle.constant_pool.specs.Pool.{indices, place_of, pool_of, AreNumbered, Indexes, Behind};
-ghost use Rattle.constant_pool.specs.declared.pool.PoolFault.TheVariants.{NoMemory};
 
 use indexmap::IndexMap;
 use jvm_code::Constant;
@@ -19,6 +18,17 @@ pub enum PoolFault {
     PoolFull,
     #[error("out of memory")]
     NoMemory,
+}
+
+impl From<AllocError> for PoolFault {
+    ghost use Rattle.std.specs.Prelude.{◌≡◌};
+    ghost use Rattle.constant_pool.specs.declared.pool.PoolFault.TheVariants.{NoMemory};
+
+    ghost from_gives = { λ _ e. e ≡ NoMemory };
+
+    fn from(_: AllocError) -> PoolFault {
+        PoolFault::NoMemory
+    }
 }
 
 /// The entries by index. Index 0 and the second index of a Long are gaps.
@@ -131,21 +141,18 @@ fn behind(index: u16, entry: &Constant) -> Result<u16, PoolFault>
 }
 
 // Adds an entry that is not there, with its index.
-#[tactic(auto, using(crate::proofs::Found::none_found))]
 fn insert(
     places: &mut IndexMap<Constant, u16>,
     entry: Constant,
     index: u16,
-) -> Result<(), PoolFault>
+) -> Result<(), AllocError>
     requires numbered { AreNumbered 1 places.old.entries }
     requires new { place_of entry (pool_of places.old.entries) ≡ None }
     ensures ok { OnOk result (places.new.entries ≡ places.old.entries ++ (entry, index) ∷ []) }
-    ensures err { IfErr result (λ fault. (fault ≡ NoMemory) × (places.new.entries ≡ places.old.entries)) }
+    ensures err { OnErr result (places.new.entries ≡ places.old.entries) }
 {
-    match places.insert(entry, index) {
-        Ok(_) => Ok(()),
-        Err(_) => Err(PoolFault::NoMemory),
-    }
+    places.insert(entry, index)?;
+    Ok(())
 }
 
 // Appends what stands at an entry's indices, the last first.

@@ -6,13 +6,17 @@
 
 mod class;
 mod constant;
+mod laws;
 mod methods;
 mod modified_utf8;
 mod names;
 mod opcodes;
+#[cfg(test)]
+mod tables_test;
 mod types;
 
 pub use class::{Class, Constant, Method, Op, Width};
+pub use laws::bytes_and_classes;
 pub use methods::{RuntimeRow, runtime, runtime_row};
 pub use modified_utf8::is_modified_utf8;
 pub use names::{is_class_name, is_method_name, mangle};
