@@ -46,3 +46,13 @@ at_end pool due left at rest all l i = sym i ∙ ap (λ n. onto pool (entries du
 -- the sizes of one entry more
 pub size_push : (pool : List Constant) (e : Constant) (from at to : ℕ) → at ≡ from + sum_by entry_size pool → to ≡ at + entry_size e → to ≡ from + sum_by entry_size (pool ++ e ∷ [])
 size_push pool e from at to h k = omega (arith, h, k, sum_by_push entry_size pool e)
+
+-- the same, by what the loop holds
+pub kept : (pool next : List Constant) (due long : Bool) (left at : ℕ) (rest : List ℕ) (e : Constant) (to : ℕ) (behind : List ℕ) (all : Got (List Constant)) → 0 < left
+    → next_entry due (left - 1) at rest ≡ Ok (e, to, behind) → long ≡ is_long e → next ≡ pool ++ e ∷ [] → onto pool (entries due left at rest) ≡ all
+    → onto next (entries long (left - 1) to behind) ≡ all
+kept pool next due long left at rest e to behind all l h d n i =
+    ap (λ p. onto p (entries long (left - 1) to behind)) n ∙ ap (λ d. onto (pool ++ e ∷ []) (entries d (left - 1) to behind)) d ∙ sym (step_on pool due left at rest e to behind l h) ∙ i
+
+pub sized : (pool next : List Constant) (e : Constant) (from at to : ℕ) → at ≡ from + sum_by entry_size pool → to ≡ at + entry_size e → next ≡ pool ++ e ∷ [] → to ≡ from + sum_by entry_size next
+sized pool next e from at to h k n = size_push pool e from at to h k ∙ ap (λ p. from + sum_by entry_size p) (sym n)

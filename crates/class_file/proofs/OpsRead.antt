@@ -38,7 +38,7 @@ first fuel k pool start pc [] e l = absurd (omega (arith, l))
 first fuel k pool start pc (b ∷ bs) e l = ap (λ n. ops n pool start pc (b ∷ bs)) e
 
 pub begins : (pool : List Constant) (start : ℕ) (code : List ℕ) → Goes pool start (length code) [] 0 code (ops (length code) pool start 0 code)
-begins pool start code = record { fuel = length code; enough = omega arith; within = refl; told = nothing (ops (length code) pool start 0 code) }
+begins pool start code = record { fuel = length code; enough = omega arith; within = omega arith; told = nothing (ops (length code) pool start 0 code) }
   where
     nothing : (g : Ops) → behind [] g ≡ g
     nothing (Ok c) = refl

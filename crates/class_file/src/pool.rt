@@ -128,7 +128,7 @@ fn next_entry(
 }
 
 /// What stands at so many indices, of which the first is a gap.
-#[tactic(auto, using(crate::proofs::EntriesRead::at_end, crate::proofs::EntriesRead::step_on, crate::proofs::EntriesRead::stops, crate::proofs::EntriesRead::size_push))]
+#[tactic(auto, using(crate::proofs::EntriesRead::at_end, crate::proofs::EntriesRead::step_on, crate::proofs::EntriesRead::stops))]
 fn entries(
     alloc: Global,
     count: u16,

@@ -1,6 +1,6 @@
 //! Reads a class (JVMS SE 7, 4.1).
 
-ghost use Rattle.std.specs.Prelude.{◌≡◌, IfOk};
+ghost use Rattle.std.specs.Prelude.{◌≡◌, IfOk, Ok};
 ghost use Rattle.std.specs.Option.{option_map};
 ghost use Rattle.class_file.specs.Gave.{Gave, Given};
 ghost use Rattle.class_file.specs.Verdicts.{verdict_of};
@@ -147,18 +147,34 @@ fn class_file(alloc: Global, source: &mut Source<'_>) -> Result<Class, ClassFaul
     class_with(alloc, pool, source)
 }
 
-/// The class of the bytes. Else the first field that fails, in the order of the bytes: where the bytes end or the format is
-/// broken they are no class, and where the profile forbids what stands there they are outside it.
+/// The class, where no byte follows it.
 #[tactic(auto, using(crate::proofs::ClassRead::trailing, crate::proofs::ClassRead::whole))]
-pub fn parse(alloc: Global, bytes: &[u8]) -> Result<Class, ClassFault>
-    ensures { Given (λ c. c) (spec.read_class bytes.now) result }
+fn ended(class: Class, source: &Source<'_>) -> Result<Class, ClassFault>
+    ensures { Given (λ c. c) (spec.ended (Ok (class, source.now.at, source.now.rest))) result }
 {
-    let mut source = Source::new(bytes);
-    let class = class_file(alloc, &mut source)?;
     if source.left() > 0 {
         return Err(ClassFault::NotClass {
             offset: source.at(),
         });
     }
     Ok(class)
+}
+
+#[tactic(auto, using(crate::proofs::ClassRead::read, crate::proofs::ClassRead::fails))]
+fn whole(alloc: Global, source: &mut Source<'_>) -> Result<Class, ClassFault>
+    ensures { Given (λ c. c) (spec.ended (spec.class_file source.old.at source.old.rest)) result }
+{
+    match class_file(alloc, source) {
+        Ok(class) => ended(class, source),
+        Err(fault) => Err(fault),
+    }
+}
+
+/// The class of the bytes. Else the first field that fails, in the order of the bytes: where the bytes end or the format is
+/// broken they are no class, and where the profile forbids what stands there they are outside it.
+pub fn parse(alloc: Global, bytes: &[u8]) -> Result<Class, ClassFault>
+    ensures { Given (λ c. c) (spec.read_class bytes.now) result }
+{
+    let mut source = Source::new(bytes);
+    whole(alloc, &mut source)
 }

@@ -91,3 +91,9 @@ indexed_new old ps new e next behind v is n h b s =
     let p = pool_push ps new e next behind is n (ap (place_of e) v ∙ h) b in
     subst (λ (o : Option ℕ). IndexedAt o old e next (pool_of new)) (sym h)
         (is.next_is ∙ ap length v, p.0 ∙ ap (λ l. l ++ indices e) v, omega (arith, is.next_is, ap length v, b, s))
+
+-- the last entry is listed, in front of those behind it
+pub one_listed : (old new : List (Constant × ℕ)) (e : Constant) (n : ℕ) (behind next all : List Constant) → old ≡ new ++ (e, n) ∷ [] → next ≡ indices e ++ behind → listed old ++ behind ≡ all
+    → listed new ++ next ≡ all
+one_listed old new e n behind next all o h i =
+    ap (λ l. listed new ++ l) h ∙ sym (append_assoc (listed new) (indices e) behind) ∙ ap (λ l. l ++ behind) (sym (listed_push new e n)) ∙ ap (λ ps. listed ps ++ behind) (sym o) ∙ i
