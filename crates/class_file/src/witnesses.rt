@@ -270,7 +270,7 @@ fn a_class_of_each_form(rt: HostRuntime) -> Result<(), Fail> {
     assert_eq!(rt; changed(rt.alloc(), bytes.as_mut_slice(), LARGE_CHANGES)?, 0);
     let class = parse(rt.alloc(), bytes.as_slice())?;
     let method = class.methods.get(0).ok_or("a method")?;
-    let (pc, last) = method.code.get(44).ok_or("an instruction")?;
+    let (pc, last) = method.code.get(39).ok_or("an instruction")?;
     assert_eq!(rt; *pc, 129);
     assert!(rt; matches!(last, Op::IReturn));
     Ok(())
