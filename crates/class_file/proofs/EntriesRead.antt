@@ -34,6 +34,7 @@ stops pool due left at rest fault all l i g = go fault g
     known : (f : Fault) → next_entry due (left - 1) at rest ≡ Err f → all ≡ Err f
     known f h = sym i ∙ ap (onto pool) (first due left (left - 1) at rest (omega (arith, l)))
         ∙ ap (λ g. onto pool (go_on g (λ e. read_as (λ es. e ∷ es) (entries (is_long e) (left - 1))))) h
+
     go : (fault : ClassFault) → Failed (next_entry due (left - 1) at rest) fault → Failed all fault
     go (NotClass at) h = known _ h
     go (OutsideProfile at) h = known _ h

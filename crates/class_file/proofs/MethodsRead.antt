@@ -31,6 +31,7 @@ module _ (pool : List Constant) where
       known : (f : Fault) → method pool before at rest ≡ Err f → all ≡ Err f
       known f h = sym i ∙ ap (onto front) (first before left (left - 1) at rest (omega (arith, l)))
           ∙ ap (λ g. onto front (go_on g (λ m. read_as (λ ms. m ∷ ms) (methods pool (before ++ name_of pool m.name ∷ []) (left - 1))))) h
+
       go : (fault : ClassFault) → Failed (method pool before at rest) fault → Failed all fault
       go (NotClass at) h = known _ h
       go (OutsideProfile at) h = known _ h

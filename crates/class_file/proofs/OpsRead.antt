@@ -49,12 +49,13 @@ pub goes_on : (pool : List Constant) (start size : ℕ) (front : List (ℕ × Op
 goes_on pool start size front pc rest all x to left g l h =
     let m = moves_op pool pc rest x to left h in
     record {
-        fuel = g.fuel - 1;
-        enough = omega (arith, g.enough, m.0, m.1);
-        within = m.1 ∙ g.within;
-        told = sym (behind_onto front (pc, x) (ops (g.fuel - 1) pool start to left))
-            ∙ sym (ap (λ o. behind front (and_more start pc o (ops (g.fuel - 1) pool start))) h)
-            ∙ sym (ap (behind front) (first g.fuel (g.fuel - 1) pool start pc rest (omega (arith, l, g.enough)) l)) ∙ g.told }
+      fuel = g.fuel - 1;
+      enough = omega (arith, g.enough, m.0, m.1);
+      within = m.1 ∙ g.within;
+      told = sym (behind_onto front (pc, x) (ops (g.fuel - 1) pool start to left))
+          ∙ sym (ap (λ o. behind front (and_more start pc o (ops (g.fuel - 1) pool start))) h)
+          ∙ sym (ap (behind front) (first g.fuel (g.fuel - 1) pool start pc rest (omega (arith, l, g.enough)) l)) ∙ g.told;
+    }
 
 pub stops : (pool : List Constant) (start size : ℕ) (front : List (ℕ × Op)) (pc : ℕ) (rest : List ℕ) (all : Ops) (fault : ClassFault)
     → Goes pool start size front pc rest all → 0 < length rest → Failed (op pool pc rest) fault → Failed all (moved_to (start + pc) fault)
@@ -63,6 +64,7 @@ stops pool start size front pc rest all fault g l f = go fault f
     known : (f : Fault) → op pool pc rest ≡ Err f → all ≡ Err (fault_at (start + pc) f)
     known f h = sym g.told ∙ ap (behind front) (first g.fuel (g.fuel - 1) pool start pc rest (omega (arith, l, g.enough)) l)
         ∙ ap (λ o. behind front (and_more start pc o (ops (g.fuel - 1) pool start))) h
+
     go : (fault : ClassFault) → Failed (op pool pc rest) fault → Failed all (moved_to (start + pc) fault)
     go (NotClass at) h = known (spec.NotClass at) h
     go (OutsideProfile at) h = known (spec.OutsideProfile at) h
@@ -82,7 +84,7 @@ pub begun : (pool : List Constant) (start : ℕ) (code : List ℕ) (front : List
     → Goes pool start (length code) front place.at place.rest (ops (length code) pool start 0 code)
 begun pool start code front place f p =
     subst (λ (p : Place). Goes pool start (length code) front p.at p.rest (ops (length code) pool start 0 code)) (sym p)
-        (subst (λ (f : List (ℕ × Op)). Goes pool start (length code) f 0 code (ops (length code) pool start 0 code)) (sym f) (begins pool start code))
+    (subst (λ (f : List (ℕ × Op)). Goes pool start (length code) f 0 code (ops (length code) pool start 0 code)) (sym f) (begins pool start code))
 
 pub goes_to : (pool : List Constant) (start size : ℕ) (front next : List (ℕ × Op)) (pc at : ℕ) (rest : List ℕ) (all : Ops) (x : Op) (to : ℕ) (left : List ℕ)
     → Goes pool start size front pc rest all → at ≡ pc → next ≡ front ++ (at, x) ∷ [] → 0 < length rest → op pool pc rest ≡ Ok (x, to, left) → Goes pool start size next to left all

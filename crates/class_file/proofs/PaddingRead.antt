@@ -17,6 +17,7 @@ stops left at rest fault all l i g = go fault g
   where
     known : (f : Fault) → pad_byte at rest ≡ Err f → all ≡ Err f
     known f h = sym i ∙ first left (left - 1) at rest (omega (arith, l)) ∙ ap (λ g. go_on g (λ _. padding (left - 1))) h
+
     go : (fault : ClassFault) → Failed (pad_byte at rest) fault → Failed all fault
     go (NotClass at) h = known _ h
     go (OutsideProfile at) h = known _ h

@@ -23,6 +23,7 @@ module _ {A : Type 0} (r : Reader A) where
       known : (f : Fault) → r at rest ≡ Err f → all ≡ Err f
       known f h = sym i ∙ ap (onto front) (first left (left - 1) at rest (omega (arith, l)))
           ∙ ap (λ g. onto front (go_on g (λ x. then_read (times (left - 1) r) (λ xs. done (x ∷ xs))))) h
+
       go : (fault : ClassFault) → Failed (r at rest) fault → Failed all fault
       go (NotClass at) h = known _ h
       go (OutsideProfile at) h = known _ h

@@ -12,14 +12,10 @@ use thiserror::Error;
 pub enum ClassFault {
     /// The bytes end there, or break the format.
     #[error("byte {offset}: no class file")]
-    NotClass {
-        offset: usize,
-    },
+    NotClass { offset: usize },
     /// The profile forbids what stands there.
     #[error("byte {offset}: outside the profile")]
-    OutsideProfile {
-        offset: usize,
-    },
+    OutsideProfile { offset: usize },
     /// Memory was wanting.
     #[error("out of memory")]
     NoMemory,

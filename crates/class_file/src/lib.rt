@@ -8,7 +8,6 @@ mod fault;
 mod instructions;
 mod methods;
 mod operands;
-
 mod pool;
 mod reading;
 mod source;

@@ -262,11 +262,7 @@ fn descriptor_verdict(pool: &[Constant], taken: bool, index: u16) -> Verdict
     }
 }
 
-fn descriptor(
-    pool: &[Constant],
-    taken: bool,
-    source: &mut Source<'_>,
-) -> Result<u16, ClassFault>
+fn descriptor(pool: &[Constant], taken: bool, source: &mut Source<'_>) -> Result<u16, ClassFault>
     ensures read { Gave (λ n. n) (spec.descriptor pool.now taken source.old.at source.old.rest) result source.new }
     ensures new { OnOk result (taken ≡ false) }
 {

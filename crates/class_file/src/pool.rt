@@ -227,10 +227,7 @@ fn first_wrong(pool: &[Constant], at: usize) -> Option<usize>
 }
 
 /// The pool, behind its count of indices.
-pub(crate) fn pool(
-    alloc: Global,
-    source: &mut Source<'_>,
-) -> Result<Items<Constant>, ClassFault>
+pub(crate) fn pool(alloc: Global, source: &mut Source<'_>) -> Result<Items<Constant>, ClassFault>
     ensures { Gave (λ es. es) (spec.constant_pool source.old.at source.old.rest) result source.new }
 {
     let start = source.at();
@@ -238,6 +235,7 @@ pub(crate) fn pool(
     settle(broken_unless(count != 0), start)?;
     let at = source.at();
     let pool = entries(alloc, count, source)?;
+    // That the offset behind the last entry is one tells that each entry's is.
     let _behind = source.at();
     match first_wrong(pool.as_slice(), at) {
         Some(offset) => Err(ClassFault::NotClass { offset }),

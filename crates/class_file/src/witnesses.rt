@@ -12,7 +12,8 @@ cafebabe00000032000801000765726c2f6d2f610700010100106a6176612f6c616e672f4f626a65
 1bac000000000000";
 
 /// Where its fields begin: cut before its end, it fails at the last of them that is not whole.
-const SMALL_FIELDS: &str = "0 4 6 8 10 20 23 42 45 52 69 76 78 80 82 84 86 88 90 92 94 96 98 102 104 106 110 111 112 114 116";
+const SMALL_FIELDS: &str =
+    "0 4 6 8 10 20 23 42 45 52 69 76 78 80 82 84 86 88 90 92 94 96 98 102 104 106 110 111 112 114 116";
 
 /// A place of a byte, what it is changed to, and what fails then.
 const SMALL_CHANGES: &str = "\
@@ -254,7 +255,10 @@ fn changed(alloc: Global, bytes: &mut [u8], rows: &str) -> Result<usize, Fail> {
 fn a_small_class(rt: HostRuntime) -> Result<(), Fail> {
     let mut bytes = bytes_of(rt.alloc(), SMALL)?;
     assert_eq!(rt; cut(rt.alloc(), bytes.as_slice(), SMALL_FIELDS)?, 0);
-    assert_eq!(rt; changed(rt.alloc(), bytes.as_mut_slice(), SMALL_CHANGES)?, 0);
+    assert_eq!(rt;
+        changed(rt.alloc(), bytes.as_mut_slice(), SMALL_CHANGES)?,
+        0
+    );
     let class = parse(rt.alloc(), bytes.as_slice())?;
     assert_eq!(rt; class.pool.len(), 8);
     assert_eq!(rt; class.methods.len(), 1);
@@ -267,7 +271,10 @@ fn a_small_class(rt: HostRuntime) -> Result<(), Fail> {
 fn a_class_of_each_form(rt: HostRuntime) -> Result<(), Fail> {
     let mut bytes = bytes_of(rt.alloc(), LARGE)?;
     assert_eq!(rt; cut(rt.alloc(), bytes.as_slice(), LARGE_FIELDS)?, 0);
-    assert_eq!(rt; changed(rt.alloc(), bytes.as_mut_slice(), LARGE_CHANGES)?, 0);
+    assert_eq!(rt;
+        changed(rt.alloc(), bytes.as_mut_slice(), LARGE_CHANGES)?,
+        0
+    );
     let class = parse(rt.alloc(), bytes.as_slice())?;
     let method = class.methods.get(0).ok_or("a method")?;
     let (pc, last) = method.code.get(39).ok_or("an instruction")?;

@@ -75,10 +75,13 @@ pub pool_push : (ps new : List (Constant × ℕ)) (e : Constant) (next behind : 
     → behind ≡ next + length (indices e) → (pool_of new ≡ pool_of ps ++ indices e) × IsPool new behind
 pool_push ps new e next behind is n h b =
     let one : pool_of new ≡ pool_of ps ++ indices e = ap pool_of n ∙ ap (λ l. c.Gap ∷ l) (listed_push ps e next) in
-    let gap = known_gap e ps h in
-    (one, record {
+    let gap = known_gap e ps h in (
+      one,
+      record {
         numbered = subst (AreNumbered 1) (sym n) (numbered_push 1 ps e next is.numbered gap (omega (arith, is.next_is)));
-        next_is = omega (arith, b, is.next_is, ap length one, length-append (pool_of ps) (indices e)) })
+        next_is = omega (arith, b, is.next_is, ap length one, length-append (pool_of ps) (indices e));
+      },
+    )
 
 -- a new entry goes last
 pub inserted : {S : Type 0} (m : IndexMap Constant ℕ S) (new : List (Constant × ℕ)) (e : Constant) (n : ℕ) → AreNumbered 1 m.entries → place_of e (pool_of m.entries) ≡ None
@@ -90,7 +93,7 @@ pub indexed_new : (old : List Constant) (ps new : List (Constant × ℕ)) (e : C
 indexed_new old ps new e next behind v is n h b s =
     let p = pool_push ps new e next behind is n (ap (place_of e) v ∙ h) b in
     subst (λ (o : Option ℕ). IndexedAt o old e next (pool_of new)) (sym h)
-        (is.next_is ∙ ap length v, p.0 ∙ ap (λ l. l ++ indices e) v, omega (arith, is.next_is, ap length v, b, s))
+    (is.next_is ∙ ap length v, p.0 ∙ ap (λ l. l ++ indices e) v, omega (arith, is.next_is, ap length v, b, s))
 
 -- the last entry is listed, in front of those behind it
 pub one_listed : (old new : List (Constant × ℕ)) (e : Constant) (n : ℕ) (behind next all : List Constant) → old ≡ new ++ (e, n) ∷ [] → next ≡ indices e ++ behind → listed old ++ behind ≡ all

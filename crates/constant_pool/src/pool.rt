@@ -207,7 +207,10 @@ mod tests {
         }
         assert_eq!(rt; pool.index_of(Constant::Long(0)), Err(PoolFault::PoolFull));
         assert_eq!(rt; pool.index_of(Constant::Integer(65533)), Ok(65534));
-        assert_eq!(rt; pool.index_of(Constant::Integer(65534)), Err(PoolFault::PoolFull));
+        assert_eq!(rt;
+            pool.index_of(Constant::Integer(65534)),
+            Err(PoolFault::PoolFull)
+        );
         assert_eq!(rt; pool.index_of(Constant::Integer(0)), Ok(1));
         assert_eq!(rt; pool.entries()?.len(), 65535);
         Ok(())

@@ -41,11 +41,13 @@ pub moves_broken : {A : Type 0} → Moves (broken {A = A})
 moves_broken = record { moved = λ at bs y to rest e. absurd cc }
 
 pub moves_then : {A B : Type 0} {r : Reader A} {f : A → Reader B} → Moves r → ((x : A) → Moves (f x)) → Moves (then_read r f)
-moves_then {A} {B} {r} {f} first next = record { moved = λ at bs y to rest e.
-    let c = chained (r at bs) f (y, to, rest) e in
-    let p = first.moved at bs c.value c.at c.rest c.first in
-    let q = (next c.value).moved c.at c.rest y to rest c.second in
-    record { on = omega (arith, p.on, q.on); kept = q.kept ∙ p.kept } }
+moves_then {A} {B} {r} {f} first next = record {
+  moved = λ at bs y to rest e.
+      let c = chained (r at bs) f (y, to, rest) e in
+      let p = first.moved at bs c.value c.at c.rest c.first in
+      let q = (next c.value).moved c.at c.rest y to rest c.second in
+      record { on = omega (arith, p.on, q.on); kept = q.kept ∙ p.kept };
+}
 
 pub moves_as : {A B : Type 0} {r : Reader A} (make : A → B) → Moves r → Moves (read_as make r)
 moves_as make m = moves_then m (λ x. moves_done (make x))
@@ -62,16 +64,20 @@ part_kept : (n at : ℕ) (bs : List ℕ) (to : ℕ) (rest : List ℕ) → n ≤ 
 part_kept n at bs to rest l t r = record { on = omega (arith, t); kept = omega (arith, l, t, ap length r, length-drop n bs) }
 
 pub moves_number : (n : ℕ) → Moves (number n)
-moves_number n = record { moved = λ at bs x to rest e.
-    let p = part_moved (λ bs. big_number n bs) n at bs x to rest (nat_le n (length bs)) refl e in part_kept n at bs to rest p.0 p.1 p.2 }
+moves_number n = record {
+  moved = λ at bs x to rest e.
+      let p = part_moved (λ bs. big_number n bs) n at bs x to rest (nat_le n (length bs)) refl e in part_kept n at bs to rest p.0 p.1 p.2;
+}
 
 -- a number is taken from the bytes
 pub number_moved : (n at : ℕ) (bs : List ℕ) (x to : ℕ) (rest : List ℕ) → number n at bs ≡ Ok (x, to, rest) → to ≡ at + n
 number_moved n at bs x to rest e = (part_moved (λ bs. big_number n bs) n at bs x to rest (nat_le n (length bs)) refl e).1
 
 pub moves_bytes : (n : ℕ) → Moves (bytes n)
-moves_bytes n = record { moved = λ at bs x to rest e.
-    let p = part_moved (λ bs. take n bs) n at bs x to rest (nat_le n (length bs)) refl e in part_kept n at bs to rest p.0 p.1 p.2 }
+moves_bytes n = record {
+  moved = λ at bs x to rest e.
+      let p = part_moved (λ bs. take n bs) n at bs x to rest (nat_le n (length bs)) refl e in part_kept n at bs to rest p.0 p.1 p.2;
+}
 
 settled_ok : {A : Type 0} (v : Verdict) (at : ℕ) (p q : A × ℕ × List ℕ) → settled v at p ≡ Ok q → Path (Got A) (Ok p) (Ok q)
 settled_ok Fine at p q e = e

@@ -32,9 +32,10 @@ took_nothing at bs to rest b t r = record { is = r; to_is = omega (arith, t); by
 
 pub took_both : (at : ℕ) (bs one : List ℕ) (mid : ℕ) (left other : List ℕ) (to : ℕ) (rest : List ℕ) → Took at bs one mid left → Took mid left other to rest → Took at bs (one ++ other) to rest
 took_both at bs one mid left other to rest p q = record {
-    is = p.is ∙ ap (λ l. one ++ l) q.is ∙ sym (append_assoc one other rest);
-    to_is = omega (arith, p.to_is, q.to_is, length-append one other);
-    bytes = q.bytes }
+  is = p.is ∙ ap (λ l. one ++ l) q.is ∙ sym (append_assoc one other rest);
+  to_is = omega (arith, p.to_is, q.to_is, length-append one other);
+  bytes = q.bytes;
+}
 
 pub took_as : (at : ℕ) (bs one other : List ℕ) (to : ℕ) (rest : List ℕ) → one ≡ other → Took at bs one to rest → Took at bs other to rest
 took_as at bs one other to rest e t = subst (λ l. Took at bs l to rest) e t
@@ -49,9 +50,10 @@ module _ {A : Type 0} (value : List ℕ → A) (n at : ℕ) (bs : List ℕ) (x :
 
 took_front : (n at : ℕ) (bs : List ℕ) (to : ℕ) (rest : List ℕ) → AreBytes bs → n ≤ length bs → to ≡ at + n → rest ≡ drop n bs → Took at bs (take n bs) to rest
 took_front n at bs to rest b l t r = record {
-    is = sym (take-append-drop n bs) ∙ ap (λ d. take n bs ++ d) (sym r);
-    to_is = omega (arith, t, length-take-le n bs l);
-    bytes = subst AreBytes (sym r) (behind_bytes (take n bs) (drop n bs) (subst AreBytes (sym (take-append-drop n bs)) b)) }
+  is = sym (take-append-drop n bs) ∙ ap (λ d. take n bs ++ d) (sym r);
+  to_is = omega (arith, t, length-take-le n bs l);
+  bytes = subst AreBytes (sym r) (behind_bytes (take n bs) (drop n bs) (subst AreBytes (sym (take-append-drop n bs)) b));
+}
 
 drop_none : (bs : List ℕ) → drop 0 bs ≡ bs
 drop_none [] = refl
@@ -63,9 +65,10 @@ number_told n at bs x to rest b e =
     let old : Unread = record { bytes = bs; place = 0 } in
     let new : Unread = record { bytes = bs; place = 0 + n } in
     let front = front_bytes (take n bs) (drop n bs) (subst AreBytes (sym (take-append-drop n bs)) b) in
-    let taken = number_taken n old new (take n bs) (big_number n (take n bs)) (record { enough = omega (arith, p.0); moved = refl }) (ap (take n) (sym (drop_none bs))) front refl in
-    (took_as at bs (take n bs) (big_bytes n x) to rest (sym (ap (big_bytes n) (sym p.1 ∙ same_number n bs p.0) ∙ taken.2 ∙ ap (take n) (drop_none bs))) (took_front n at bs to rest b p.0 p.2 p.3),
-     subst (λ x. x < 256 ^ n) p.1 (big_from-lt 0 n bs b))
+    let taken = number_taken n old new (take n bs) (big_number n (take n bs)) (record { enough = omega (arith, p.0); moved = refl }) (ap (take n) (sym (drop_none bs))) front refl in (
+      took_as at bs (take n bs) (big_bytes n x) to rest (sym (ap (big_bytes n) (sym p.1 ∙ same_number n bs p.0) ∙ taken.2 ∙ ap (take n) (drop_none bs))) (took_front n at bs to rest b p.0 p.2 p.3),
+      subst (λ x. x < 256 ^ n) p.1 (big_from-lt 0 n bs b),
+    )
   where
     same_number : (n : ℕ) (bs : List ℕ) → n ≤ length bs → big_number n bs ≡ big_number n (take n bs)
     same_number n bs l = sym (big_from-take 0 n n bs (omega arith))

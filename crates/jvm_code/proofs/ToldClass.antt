@@ -48,11 +48,11 @@ members_told pool at bs ms to rest b e =
     let m = made (λ _. k.value) none k.at k.rest ms to rest k.second in
     let u = known_told 0 k.at k.rest m.value to rest t.0.bytes m.read in
     took_as at bs (big_bytes 2 0 ++ (big_bytes 2 0 ++ (big_bytes 2 j.value ++ (flat_map method_bytes k.value ++ big_bytes 2 0)))) (members_bytes ms) to rest
-        (ap (λ n. big_bytes 2 0 ++ (big_bytes 2 0 ++ (big_bytes 2 n ++ (flat_map method_bytes k.value ++ big_bytes 2 0)))) (sym t.1) ∙ ap members_bytes (sym m.is))
-        (took_both at bs (big_bytes 2 0) h.at h.rest _ to rest p
-        (took_both h.at h.rest (big_bytes 2 0) i.at i.rest _ to rest q
-        (took_both i.at i.rest (big_bytes 2 j.value) j.at j.rest _ to rest s
-        (took_both j.at j.rest (flat_map method_bytes k.value) k.at k.rest (big_bytes 2 0) to rest t.0 u))))
+    (ap (λ n. big_bytes 2 0 ++ (big_bytes 2 0 ++ (big_bytes 2 n ++ (flat_map method_bytes k.value ++ big_bytes 2 0)))) (sym t.1) ∙ ap members_bytes (sym m.is))
+    (took_both at bs (big_bytes 2 0) h.at h.rest _ to rest p
+    (took_both h.at h.rest (big_bytes 2 0) i.at i.rest _ to rest q
+    (took_both i.at i.rest (big_bytes 2 j.value) j.at j.rest _ to rest s
+    (took_both j.at j.rest (flat_map method_bytes k.value) k.at k.rest (big_bytes 2 0) to rest t.0 u))))
 
 -- what stands behind the pool
 abbrev behind_pool : Class → List ℕ
@@ -66,12 +66,13 @@ with_told pool at bs c to rest b e =
     let q = field2_told (λ i. text_that is_class_name (class_at pool i)) h.at h.rest i.value i.at i.rest p.bytes i.first in
     let j = chained (above pool i.at i.rest) (λ above. read_as (class_of pool h.value i.value above) (members pool)) (c, to, rest) i.second in
     let s = field2_told (λ i. text_that is_object (class_at pool i)) i.at i.rest j.value j.at j.rest q.bytes j.first in
-    let m = made (class_of pool h.value i.value j.value) (members pool) j.at j.rest c to rest j.second in
-    (took_as at bs (big_bytes 2 h.value ++ (big_bytes 2 i.value ++ (big_bytes 2 j.value ++ members_bytes m.value))) (behind_pool c) to rest (ap behind_pool (sym m.is))
-        (took_both at bs (big_bytes 2 h.value) h.at h.rest _ to rest p
-        (took_both h.at h.rest (big_bytes 2 i.value) i.at i.rest _ to rest q
-        (took_both i.at i.rest (big_bytes 2 j.value) j.at j.rest (members_bytes m.value) to rest s (members_told pool j.at j.rest m.value to rest s.bytes m.read)))),
-     ap (λ (c : Class). c.pool) m.is)
+    let m = made (class_of pool h.value i.value j.value) (members pool) j.at j.rest c to rest j.second in (
+      took_as at bs (big_bytes 2 h.value ++ (big_bytes 2 i.value ++ (big_bytes 2 j.value ++ members_bytes m.value))) (behind_pool c) to rest (ap behind_pool (sym m.is))
+          (took_both at bs (big_bytes 2 h.value) h.at h.rest _ to rest p
+          (took_both h.at h.rest (big_bytes 2 i.value) i.at i.rest _ to rest q
+          (took_both i.at i.rest (big_bytes 2 j.value) j.at j.rest (members_bytes m.value) to rest s (members_told pool j.at j.rest m.value to rest s.bytes m.read)))),
+      ap (λ (c : Class). c.pool) m.is,
+    )
 
 file_told : (at : ℕ) (bs : List ℕ) (c : Class) (to : ℕ) (rest : List ℕ) → AreBytes bs → class_file at bs ≡ Ok (c, to, rest) → Took at bs (class_bytes c) to rest
 file_told at bs c to rest b e =
@@ -83,10 +84,10 @@ file_told at bs c to rest b e =
     let s = pool_told i.at i.rest j.value j.at j.rest q.bytes j.first in
     let t = with_told j.value j.at j.rest c to rest s.bytes j.second in
     took_as at bs (big_bytes 4 0xCAFEBABE ++ ((big_bytes 2 0 ++ big_bytes 2 50) ++ ((big_bytes 2 (length j.value) ++ flat_map constant_bytes j.value) ++ behind_pool c))) (class_bytes c) to rest
-        (ap (λ pool. big_bytes 4 0xCAFEBABE ++ ((big_bytes 2 0 ++ big_bytes 2 50) ++ ((big_bytes 2 (length pool) ++ flat_map constant_bytes pool) ++ behind_pool c))) (sym t.1) ∙ simp append_assoc)
-        (took_both at bs (big_bytes 4 0xCAFEBABE) h.at h.rest _ to rest p
-        (took_both h.at h.rest (big_bytes 2 0 ++ big_bytes 2 50) i.at i.rest _ to rest q
-        (took_both i.at i.rest (big_bytes 2 (length j.value) ++ flat_map constant_bytes j.value) j.at j.rest (behind_pool c) to rest s t.0)))
+    (ap (λ pool. big_bytes 4 0xCAFEBABE ++ ((big_bytes 2 0 ++ big_bytes 2 50) ++ ((big_bytes 2 (length pool) ++ flat_map constant_bytes pool) ++ behind_pool c))) (sym t.1) ∙ simp append_assoc)
+    (took_both at bs (big_bytes 4 0xCAFEBABE) h.at h.rest _ to rest p
+    (took_both h.at h.rest (big_bytes 2 0 ++ big_bytes 2 50) i.at i.rest _ to rest q
+    (took_both i.at i.rest (big_bytes 2 (length j.value) ++ flat_map constant_bytes j.value) j.at j.rest (behind_pool c) to rest s t.0)))
 
 -- the bytes of a class are those that spell it
 pub class_told : (bs : List ℕ) (c : Class) → AreBytes bs → read_class bs ≡ Ok c → bs ≡ class_bytes c

@@ -72,11 +72,14 @@ code_told pool n at bs all to rest b e =
     let seam = take-append-drop n bs in
     let both = subst AreBytes (sym seam) b in
     let is : take n bs ≡ code_bytes all = ops_told (length (take n bs)) pool at 0 (take n bs) all (front_bytes (take n bs) (drop n bs) both) k.whole in
-    let size : length (code_bytes all) ≡ n = ap length (sym is) ∙ length-take-le n bs k.enough in
-    (record {
+    let size : length (code_bytes all) ≡ n = ap length (sym is) ∙ length-take-le n bs k.enough in (
+      record {
         is = sym seam ∙ ap (λ l. l ++ drop n bs) is ∙ ap (λ l. code_bytes all ++ l) (sym k.behind);
         to_is = omega (arith, k.to_is, size);
-        bytes = subst AreBytes (sym k.behind) (behind_bytes (take n bs) (drop n bs) both) }, size)
+        bytes = subst AreBytes (sym k.behind) (behind_bytes (take n bs) (drop n bs) both);
+      },
+      size,
+    )
 
 u2_told : (judge : ℕ → Verdict) (at : ℕ) (bs : List ℕ) (n to : ℕ) (rest : List ℕ) → AreBytes bs → field u2 judge at bs ≡ Ok (n, to, rest) → Took at bs (big_bytes 2 n) to rest
 u2_told judge at bs n to rest b e = (number_told 2 at bs n to rest b (field_told u2 judge at bs n to rest e).0).0
@@ -93,7 +96,7 @@ instructions_told pool at bs all to rest b e =
     let one = (number_told 4 at bs h.value h.at h.rest b (field_told u4 test at bs h.value h.at h.rest h.first).0).0 in
     let t = code_told pool h.value h.at h.rest all to rest one.bytes h.second in
     took_as at bs (big_bytes 4 h.value ++ code_bytes all) (counted (code_bytes all)) to rest (ap (λ n. big_bytes 4 n ++ code_bytes all) (sym t.1))
-        (took_both at bs (big_bytes 4 h.value) h.at h.rest (code_bytes all) to rest one t.0)
+    (took_both at bs (big_bytes 4 h.value) h.at h.rest (code_bytes all) to rest one t.0)
 
 map_told : (pool : List Constant) (at : ℕ) (bs : List ℕ) (m : Option (ℕ × List ℕ)) (to : ℕ) (rest : List ℕ) → AreBytes bs → map pool at bs ≡ Ok (m, to, rest)
     → (tail : List ℕ) × (maps_bytes m ≡ big_bytes 2 1 ++ tail) × Took at bs tail to rest
@@ -103,11 +106,13 @@ map_told pool at bs m to rest b e =
     let k = made (λ content. Some (h.value, content)) (then_read u4 bytes) h.at h.rest m to rest h.second in
     let i = chained (u4 h.at h.rest) bytes (k.value, to, rest) k.read in
     let size = (number_told 4 h.at h.rest i.value i.at i.rest one.bytes i.first).0 in
-    let t = bytes_told i.value i.at i.rest k.value to rest size.bytes i.second in
-    (big_bytes 2 h.value ++ counted k.value, ap maps_bytes k.is,
-        took_both at bs (big_bytes 2 h.value) h.at h.rest (counted k.value) to rest one
-        (took_as h.at h.rest (big_bytes 4 i.value ++ k.value) (counted k.value) to rest (ap (λ n. big_bytes 4 n ++ k.value) (sym t.1))
-            (took_both h.at h.rest (big_bytes 4 i.value) i.at i.rest k.value to rest size t.0)))
+    let t = bytes_told i.value i.at i.rest k.value to rest size.bytes i.second in (
+      big_bytes 2 h.value ++ counted k.value,
+      ap maps_bytes k.is,
+      took_both at bs (big_bytes 2 h.value) h.at h.rest (counted k.value) to rest one
+          (took_as h.at h.rest (big_bytes 4 i.value ++ k.value) (counted k.value) to rest (ap (λ n. big_bytes 4 n ++ k.value) (sym t.1))
+          (took_both h.at h.rest (big_bytes 4 i.value) i.at i.rest k.value to rest size t.0)),
+    )
 
 maps_told : (pool : List Constant) (at : ℕ) (bs : List ℕ) (m : Option (ℕ × List ℕ)) (to : ℕ) (rest : List ℕ) → AreBytes bs → maps pool at bs ≡ Ok (m, to, rest) → Took at bs (maps_bytes m) to rest
 maps_told pool at bs m to rest b e =
@@ -144,10 +149,10 @@ content_told pool at bs k to rest b e =
     let m = made (make h.value i.value j.value) (maps pool) l.at l.rest k to rest l.second in
     let u = maps_told pool l.at l.rest m.value to rest t.bytes m.read in
     took_as at bs (big_bytes 2 h.value ++ (big_bytes 2 i.value ++ (counted (code_bytes j.value) ++ (big_bytes 2 0 ++ maps_bytes m.value)))) (content_bytes k) to rest (ap content_bytes (sym m.is))
-        (took_both at bs (big_bytes 2 h.value) h.at h.rest _ to rest p
-        (took_both h.at h.rest (big_bytes 2 i.value) i.at i.rest _ to rest q
-        (took_both i.at i.rest (counted (code_bytes j.value)) j.at j.rest _ to rest s
-        (took_both j.at j.rest (big_bytes 2 0) l.at l.rest (maps_bytes m.value) to rest t u))))
+    (took_both at bs (big_bytes 2 h.value) h.at h.rest _ to rest p
+    (took_both h.at h.rest (big_bytes 2 i.value) i.at i.rest _ to rest q
+    (took_both i.at i.rest (counted (code_bytes j.value)) j.at j.rest _ to rest s
+    (took_both j.at j.rest (big_bytes 2 0) l.at l.rest (maps_bytes m.value) to rest t u))))
 
 sized_told : (pool : List Constant) (at : ℕ) (bs : List ℕ) (k : Content) (to : ℕ) (rest : List ℕ) → AreBytes bs → sized (content pool) at bs ≡ Ok (k, to, rest) → Took at bs (counted (content_bytes k)) to rest
 sized_told pool at bs k to rest b e =
@@ -157,7 +162,7 @@ sized_told pool at bs k to rest b e =
     let t = content_told pool h.at h.rest k to rest one.bytes s.0 in
     let size : h.value ≡ length (content_bytes k) = omega (arith, s.1, t.to_is) in
     took_as at bs (big_bytes 4 h.value ++ content_bytes k) (counted (content_bytes k)) to rest (ap (λ n. big_bytes 4 n ++ content_bytes k) size)
-        (took_both at bs (big_bytes 4 h.value) h.at h.rest (content_bytes k) to rest one t)
+    (took_both at bs (big_bytes 4 h.value) h.at h.rest (content_bytes k) to rest one t)
   where
     as_told : (g : Got Content) (n from : ℕ) → sized_as at n from g ≡ Ok (k, to, rest) → (g ≡ Ok (k, to, rest)) × (to ≡ from + n)
     as_told (Err _) n from e = absurd cc
@@ -178,8 +183,8 @@ attribute_told pool at bs p to rest b e =
     let q = u2_told (λ i. text_that (λ text. bytes_eq text (codes "Code")) (utf8_at pool i)) h.at h.rest i.value i.at i.rest one.bytes i.first in
     let m = made (λ content. (i.value, content)) (sized (content pool)) i.at i.rest p to rest i.second in
     took_as at bs (big_bytes 2 1 ++ (big_bytes 2 i.value ++ counted (content_bytes m.value))) (attribute_bytes p) to rest (ap attribute_bytes (sym m.is))
-        (took_both at bs (big_bytes 2 1) h.at h.rest _ to rest one
-        (took_both h.at h.rest (big_bytes 2 i.value) i.at i.rest (counted (content_bytes m.value)) to rest q (sized_told pool i.at i.rest m.value to rest q.bytes m.read)))
+    (took_both at bs (big_bytes 2 1) h.at h.rest _ to rest one
+    (took_both h.at h.rest (big_bytes 2 i.value) i.at i.rest (counted (content_bytes m.value)) to rest q (sized_told pool i.at i.rest m.value to rest q.bytes m.read)))
 
 method_told : (pool : List Constant) (before : List (List ℕ)) (at : ℕ) (bs : List ℕ) (m : Method) (to : ℕ) (rest : List ℕ) → AreBytes bs → method pool before at bs ≡ Ok (m, to, rest) → Took at bs (method_bytes m) to rest
 method_told pool before at bs m to rest b e =
@@ -191,9 +196,9 @@ method_told pool before at bs m to rest b e =
     let s = u2_told (λ k. descriptor_that (is_taken pool before i.value) (utf8_at pool k)) i.at i.rest j.value j.at j.rest q.bytes j.first in
     let k = made (method_of h.value i.value j.value) (attribute pool) j.at j.rest m to rest j.second in
     took_as at bs (big_bytes 2 h.value ++ (big_bytes 2 i.value ++ (big_bytes 2 j.value ++ attribute_bytes k.value))) (method_bytes m) to rest (ap method_bytes (sym k.is))
-        (took_both at bs (big_bytes 2 h.value) h.at h.rest _ to rest p
-        (took_both h.at h.rest (big_bytes 2 i.value) i.at i.rest _ to rest q
-        (took_both i.at i.rest (big_bytes 2 j.value) j.at j.rest (attribute_bytes k.value) to rest s (attribute_told pool j.at j.rest k.value to rest s.bytes k.read))))
+    (took_both at bs (big_bytes 2 h.value) h.at h.rest _ to rest p
+    (took_both h.at h.rest (big_bytes 2 i.value) i.at i.rest _ to rest q
+    (took_both i.at i.rest (big_bytes 2 j.value) j.at j.rest (attribute_bytes k.value) to rest s (attribute_told pool j.at j.rest k.value to rest s.bytes k.read))))
 
 pub methods_told : (pool : List Constant) (before : List (List ℕ)) (n at : ℕ) (bs : List ℕ) (ms : List Method) (to : ℕ) (rest : List ℕ) → AreBytes bs → methods pool before n at bs ≡ Ok (ms, to, rest)
     → Took at bs (flat_map method_bytes ms) to rest × (length ms ≡ n)
@@ -203,6 +208,8 @@ methods_told pool before (suc n) at bs ms to rest b e =
     let h = chained (method pool before at bs) (λ m. read_as (λ ms. m ∷ ms) (methods pool (before ++ name_of pool m.name ∷ []) n)) (ms, to, rest) e in
     let one = method_told pool before at bs h.value h.at h.rest b h.first in
     let m = made (λ ms. h.value ∷ ms) (methods pool (before ++ name_of pool h.value.name ∷ []) n) h.at h.rest ms to rest h.second in
-    let t = methods_told pool (before ++ name_of pool h.value.name ∷ []) n h.at h.rest m.value to rest one.bytes m.read in
-    (took_as at bs (method_bytes h.value ++ flat_map method_bytes m.value) (flat_map method_bytes ms) to rest (ap (flat_map method_bytes) (sym m.is))
-        (took_both at bs (method_bytes h.value) h.at h.rest (flat_map method_bytes m.value) to rest one t.0), ap length m.is ∙ ap suc t.1)
+    let t = methods_told pool (before ++ name_of pool h.value.name ∷ []) n h.at h.rest m.value to rest one.bytes m.read in (
+      took_as at bs (method_bytes h.value ++ flat_map method_bytes m.value) (flat_map method_bytes ms) to rest (ap (flat_map method_bytes) (sym m.is))
+          (took_both at bs (method_bytes h.value) h.at h.rest (flat_map method_bytes m.value) to rest one t.0),
+      ap length m.is ∙ ap suc t.1,
+    )

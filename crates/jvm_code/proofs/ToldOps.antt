@@ -149,7 +149,7 @@ padding_told (suc n) at bs x to rest b r =
     let f = field_told u1 test at bs h.value h.at h.rest h.first in
     let one = (number_told 1 at bs h.value h.at h.rest b f.0).0 in
     took_both at bs (0 ∷ []) h.at h.rest (replicate n 0) to rest (took_as at bs (big_bytes 1 h.value) (0 ∷ []) h.at h.rest (ap (big_bytes 1) (fine_eq h.value 0 f.1)) one)
-        (padding_told n h.at h.rest x to rest one.bytes h.second)
+    (padding_told n h.at h.rest x to rest one.bytes h.second)
 
 times_told : {A : Type 0} (r : Reader A) (spells : A → List ℕ)
     → ((at : ℕ) (bs : List ℕ) (x : A) (to : ℕ) (rest : List ℕ) → AreBytes bs → r at bs ≡ Ok (x, to, rest) → Took at bs (spells x) to rest)
@@ -160,9 +160,11 @@ times_told r spells one (suc n) at bs xs to rest b e =
     let h = chained (r at bs) (λ x. then_read (times n r) (λ xs. done (x ∷ xs))) (xs, to, rest) e in
     let first = one at bs h.value h.at h.rest b h.first in
     let m = made (λ xs. h.value ∷ xs) (times n r) h.at h.rest xs to rest h.second in
-    let t = times_told r spells one n h.at h.rest m.value to rest first.bytes m.read in
-    (took_as at bs (spells h.value ++ flat_map spells m.value) (flat_map spells xs) to rest (ap (flat_map spells) (sym m.is))
-        (took_both at bs (spells h.value) h.at h.rest (flat_map spells m.value) to rest first t.0), ap length m.is ∙ ap suc t.1)
+    let t = times_told r spells one n h.at h.rest m.value to rest first.bytes m.read in (
+      took_as at bs (spells h.value ++ flat_map spells m.value) (flat_map spells xs) to rest (ap (flat_map spells) (sym m.is))
+          (took_both at bs (spells h.value) h.at h.rest (flat_map spells m.value) to rest first t.0),
+      ap length m.is ∙ ap suc t.1,
+    )
 
 pair_told : (at : ℕ) (bs : List ℕ) (p : ℤ × ℤ) (to : ℕ) (rest : List ℕ) → AreBytes bs → pair at bs ≡ Ok (p, to, rest) → Took at bs (pair_bytes p) to rest
 pair_told at bs p to rest b r =
@@ -170,7 +172,7 @@ pair_told at bs p to rest b r =
     let one = s4_told at bs h.value h.at h.rest b h.first in
     let m = made (λ offset. (h.value, offset)) s4 h.at h.rest p to rest h.second in
     took_as at bs (spell.s4 h.value ++ spell.s4 m.value) (pair_bytes p) to rest (ap pair_bytes (sym m.is))
-        (took_both at bs (spell.s4 h.value) h.at h.rest (spell.s4 m.value) to rest one (s4_told h.at h.rest m.value to rest one.bytes m.read))
+    (took_both at bs (spell.s4 h.value) h.at h.rest (spell.s4 m.value) to rest one (s4_told h.at h.rest m.value to rest one.bytes m.read))
 
 -- the high value, by the low one and the count
 high_told : (low high : ℤ) (n : ℕ) → int_le low high ≡ true → n ≡ nat_abs (high -ℤ low) + 1 → high ≡ (low +ℤ pos n) -ℤ pos 1
@@ -192,14 +194,15 @@ table_told tag pc bs y to rest b is r =
     let u = times_told s4 spell.s4 (λ at bs x to rest b e. s4_told at bs x to rest b e) (nat_abs (k.value -ℤ j.value) + 1) k.at k.rest m.value to rest t.bytes m.read in
     let high : k.value ≡ high_of j.value m.value = high_told j.value k.value (length m.value) (sound (int_le j.value k.value) f.1) u.1 in
     record {
-        tail = replicate (pad at) 0 ++ (spell.s4 i.value ++ (spell.s4 j.value ++ (spell.s4 k.value ++ flat_map spell.s4 m.value)));
-        spelled = ap (op_bytes pc) m.is
-            ∙ ap (λ v. big_bytes 1 170 ++ (replicate (pad at) 0 ++ (spell.s4 i.value ++ (spell.s4 j.value ++ (spell.s4 v ++ flat_map spell.s4 m.value))))) (sym high)
-            ∙ is_tag tag 170 _ is;
-        took = took_both at bs (replicate (pad at) 0) h.at h.rest _ to rest p
-            (took_both h.at h.rest (spell.s4 i.value) i.at i.rest _ to rest q
-            (took_both i.at i.rest (spell.s4 j.value) j.at j.rest _ to rest s
-            (took_both j.at j.rest (spell.s4 k.value) k.at k.rest _ to rest t u.0))) }
+      tail = replicate (pad at) 0 ++ (spell.s4 i.value ++ (spell.s4 j.value ++ (spell.s4 k.value ++ flat_map spell.s4 m.value)));
+      spelled = ap (op_bytes pc) m.is
+          ∙ ap (λ v. big_bytes 1 170 ++ (replicate (pad at) 0 ++ (spell.s4 i.value ++ (spell.s4 j.value ++ (spell.s4 v ++ flat_map spell.s4 m.value))))) (sym high)
+          ∙ is_tag tag 170 _ is;
+      took = took_both at bs (replicate (pad at) 0) h.at h.rest _ to rest p
+          (took_both h.at h.rest (spell.s4 i.value) i.at i.rest _ to rest q
+          (took_both i.at i.rest (spell.s4 j.value) j.at j.rest _ to rest s
+          (took_both j.at j.rest (spell.s4 k.value) k.at k.rest _ to rest t u.0)));
+    }
 
 lookup_told : (tag pc : ℕ) (bs : List ℕ) (y : Op) (to : ℕ) (rest : List ℕ) → AreBytes bs → nat_eq tag 171 ≡ true → lookup_switch (pc + 1) bs ≡ Ok (y, to, rest) → Tail pc y tag (pc + 1) bs to rest
 lookup_told tag pc bs y to rest b is r =
@@ -214,13 +217,14 @@ lookup_told tag pc bs y to rest b is r =
     let m = made (o.LookupSwitch i.value) (field (times j.value pair) test) j.at j.rest y to rest j.second in
     let u = times_told pair pair_bytes pair_told j.value j.at j.rest m.value to rest s.bytes (field_told (times j.value pair) test j.at j.rest m.value to rest m.read).0 in
     record {
-        tail = replicate (pad at) 0 ++ (spell.s4 i.value ++ (spell.u4 j.value ++ flat_map pair_bytes m.value));
-        spelled = ap (op_bytes pc) m.is
-            ∙ ap (λ n. big_bytes 1 171 ++ (replicate (pad at) 0 ++ (spell.s4 i.value ++ (spell.u4 n ++ flat_map pair_bytes m.value)))) u.1
-            ∙ is_tag tag 171 _ is;
-        took = took_both at bs (replicate (pad at) 0) h.at h.rest _ to rest p
-            (took_both h.at h.rest (spell.s4 i.value) i.at i.rest _ to rest q
-            (took_both i.at i.rest (spell.u4 j.value) j.at j.rest _ to rest s u.0)) }
+      tail = replicate (pad at) 0 ++ (spell.s4 i.value ++ (spell.u4 j.value ++ flat_map pair_bytes m.value));
+      spelled = ap (op_bytes pc) m.is
+          ∙ ap (λ n. big_bytes 1 171 ++ (replicate (pad at) 0 ++ (spell.s4 i.value ++ (spell.u4 n ++ flat_map pair_bytes m.value)))) u.1
+          ∙ is_tag tag 171 _ is;
+      took = took_both at bs (replicate (pad at) 0) h.at h.rest _ to rest p
+          (took_both h.at h.rest (spell.s4 i.value) i.at i.rest _ to rest q
+          (took_both i.at i.rest (spell.u4 j.value) j.at j.rest _ to rest s u.0));
+    }
 
 record Widened (pc : ℕ) (y : Op) (second at : ℕ) (bs : List ℕ) (to : ℕ) (rest : List ℕ) : Type 0 where
   tail : List ℕ
@@ -298,4 +302,4 @@ op_told pool pc bs y to rest b r =
     let second : behind pool h.value (pc + 1) h.rest ≡ Ok (y, to, rest) = ap (λ a. behind pool h.value a h.rest) (sym one.to_is) ∙ h.second in
     let t = behind_told pool pc h.value h.rest y to rest one.bytes second in
     took_as pc bs (big_bytes 1 h.value ++ t.tail) (op_bytes pc y) to rest (sym t.spelled)
-        (took_both pc bs (big_bytes 1 h.value) h.at h.rest t.tail to rest one (subst (λ a. Took a h.rest t.tail to rest) (sym one.to_is) t.took))
+    (took_both pc bs (big_bytes 1 h.value) h.at h.rest t.tail to rest one (subst (λ a. Took a h.rest t.tail to rest) (sym one.to_is) t.took))

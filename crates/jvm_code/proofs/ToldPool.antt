@@ -36,8 +36,11 @@ two_tail make known spells tag at bs e to rest b is r =
     let one = (number_told 2 at bs h.value h.at h.rest b h.first).0 in
     let m = made (make h.value) u2 h.at h.rest e to rest h.second in
     let other = (number_told 2 h.at h.rest m.value to rest one.bytes m.read).0 in
-    record { tail = big_bytes 2 h.value ++ big_bytes 2 m.value; spelled = ap constant_bytes m.is ∙ spells h.value m.value ∙ tagged tag known (big_bytes 2 h.value ++ big_bytes 2 m.value) is;
-             took = took_both at bs (big_bytes 2 h.value) h.at h.rest (big_bytes 2 m.value) to rest one other }
+    record {
+      tail = big_bytes 2 h.value ++ big_bytes 2 m.value;
+      spelled = ap constant_bytes m.is ∙ spells h.value m.value ∙ tagged tag known (big_bytes 2 h.value ++ big_bytes 2 m.value) is;
+      took = took_both at bs (big_bytes 2 h.value) h.at h.rest (big_bytes 2 m.value) to rest one other;
+    }
 
 integer_tail : (tag at : ℕ) (bs : List ℕ) (e : Constant) (to : ℕ) (rest : List ℕ) → AreBytes bs → nat_eq tag 3 ≡ true → read_as c.Integer s4 at bs ≡ Ok (e, to, rest) → Tail e tag at bs to rest
 integer_tail tag at bs e to rest b is r =
@@ -58,8 +61,11 @@ utf8_tail tag at bs e to rest b is r =
     let m = made c.Utf8 (field (bytes h.value) test) h.at h.rest e to rest h.second in
     let t = bytes_told h.value h.at h.rest m.value to rest one.bytes (field_told (bytes h.value) test h.at h.rest m.value to rest m.read).0 in
     let size : big_bytes 2 h.value ≡ big_bytes 2 (length m.value) = ap (big_bytes 2) (sym t.1) in
-    record { tail = big_bytes 2 (length m.value) ++ m.value; spelled = ap constant_bytes m.is ∙ tagged tag 1 (big_bytes 2 (length m.value) ++ m.value) is;
-             took = took_both at bs (big_bytes 2 (length m.value)) h.at h.rest m.value to rest (took_as at bs (big_bytes 2 h.value) (big_bytes 2 (length m.value)) h.at h.rest size one) t.0 }
+    record {
+      tail = big_bytes 2 (length m.value) ++ m.value;
+      spelled = ap constant_bytes m.is ∙ tagged tag 1 (big_bytes 2 (length m.value) ++ m.value) is;
+      took = took_both at bs (big_bytes 2 (length m.value)) h.at h.rest m.value to rest (took_as at bs (big_bytes 2 h.value) (big_bytes 2 (length m.value)) h.at h.rest size one) t.0;
+    }
 
 none_tail : (tag at : ℕ) (bs : List ℕ) (e : Constant) (to : ℕ) (rest : List ℕ) → other tag at bs ≡ Ok (e, to, rest) → Tail e tag at bs to rest
 none_tail tag at bs e to rest r = chosen (is_other_tag tag) outside broken at bs (Tail e tag at bs to rest) (Ok (e, to, rest)) r (λ _ r. absurd cc) (λ _ r. absurd cc)
@@ -96,9 +102,11 @@ entries_told due (suc n) at bs es to rest b r =
     let h = chained (next_entry due n at bs) (λ e. read_as (λ es. e ∷ es) (entries (is_long e) n)) (es, to, rest) r in
     let one = next_told due n at bs h.value h.at h.rest b h.first in
     let m = made (λ es. h.value ∷ es) (entries (is_long h.value) n) h.at h.rest es to rest h.second in
-    let t = entries_told (is_long h.value) n h.at h.rest m.value to rest one.bytes m.read in
-    (took_as at bs (constant_bytes h.value ++ flat_map constant_bytes m.value) (flat_map constant_bytes es) to rest (ap (flat_map constant_bytes) (sym m.is))
-        (took_both at bs (constant_bytes h.value) h.at h.rest (flat_map constant_bytes m.value) to rest one t.0), ap length m.is ∙ ap suc t.1)
+    let t = entries_told (is_long h.value) n h.at h.rest m.value to rest one.bytes m.read in (
+      took_as at bs (constant_bytes h.value ++ flat_map constant_bytes m.value) (flat_map constant_bytes es) to rest (ap (flat_map constant_bytes) (sym m.is))
+          (took_both at bs (constant_bytes h.value) h.at h.rest (flat_map constant_bytes m.value) to rest one t.0),
+      ap length m.is ∙ ap suc t.1,
+    )
 
 referred_told : (at : ℕ) (g : Got (List Constant)) (p : List Constant × ℕ × List ℕ) → referred at g ≡ Ok p → g ≡ Ok p
 referred_told at (Ok q) p e = go (first_wrong q.0 at q.0) e
@@ -116,5 +124,5 @@ pool_told at bs es to rest b r =
     let one = (number_told 2 at bs h.value h.at h.rest b (field_told u2 test at bs h.value h.at h.rest h.first).0).0 in
     let t = entries_told true h.value h.at h.rest es to rest one.bytes (referred_told h.at (entries true h.value h.at h.rest) (es, to, rest) h.second) in
     took_as at bs (big_bytes 2 h.value ++ flat_map constant_bytes es) (big_bytes 2 (length es) ++ flat_map constant_bytes es) to rest
-        (ap (λ n. big_bytes 2 n ++ flat_map constant_bytes es) (sym t.1))
-        (took_both at bs (big_bytes 2 h.value) h.at h.rest (flat_map constant_bytes es) to rest one t.0)
+    (ap (λ n. big_bytes 2 n ++ flat_map constant_bytes es) (sym t.1))
+    (took_both at bs (big_bytes 2 h.value) h.at h.rest (flat_map constant_bytes es) to rest one t.0)

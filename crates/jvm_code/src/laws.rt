@@ -11,5 +11,4 @@ pub fn bytes_and_classes()
     ensures spelled { (bytes : List ℕ) (class : ClassSeen) → ClassOf bytes class → bytes ≡ class_bytes class }
     ensures one_class { (bytes : List ℕ) (one other : ClassSeen) → ClassOf bytes one → ClassOf bytes other → one ≡ other }
     ensures one_string { (one other : List ℕ) (class : ClassSeen) → ClassOf one class → ClassOf other class → one ≡ other }
-{
-}
+{}

@@ -1,7 +1,9 @@
 //! Each row of the two tables, spelled anew in plain text, and names and types that are decided.
 
-use crate::{VType, assignable, is_class_name, is_method_name, is_modified_utf8, mangle};
-use crate::{mnemonic, opcode, runtime, runtime_row};
+use crate::{
+    VType, assignable, is_class_name, is_method_name, is_modified_utf8, mangle, mnemonic, opcode,
+    runtime, runtime_row,
+};
 use ej_term::Text;
 use std::alloc::AllocError;
 use std::test::Fail;
@@ -249,7 +251,10 @@ fn each_runtime_method(rt: HostRuntime) -> Result<(), Fail> {
         let number = word(&mut words).parse::<u16>()?;
         let name = word(&mut words);
         let descriptor = word(&mut words);
-        assert_eq!(rt; runtime(name.as_bytes(), descriptor.as_bytes()), Some(number));
+        assert_eq!(rt;
+            runtime(name.as_bytes(), descriptor.as_bytes()),
+            Some(number)
+        );
         assert_eq!(rt; runtime_row(number).ok_or("a row")?.name, name);
         assert_eq!(rt; runtime(name.as_bytes(), b"()V"), None);
         count += 1;
