@@ -72,8 +72,8 @@ impl<'a> Cursor<'a> {
         Some(BigEndian::read_u64(piece))
     }
 
-    // The next bytes, or none where fewer are left.
-    fn take(&mut self, count: usize) -> Option<&'a [u8]>
+    /// So many of the next bytes. None where fewer are left, and then the place stays.
+    pub fn take(&mut self, count: usize) -> Option<&'a [u8]>
         ensures taken { TakesBytes (λ piece. piece.now) count self.old result self.new }
         ensures bytes { IfSome result (λ piece. AreBytes piece.now) }
     {
@@ -111,6 +111,7 @@ mod tests {
         assert_eq!(rt; cursor.take_u32(), Some(0x04050607));
         assert_eq!(rt; cursor.take_u64(), Some(0x08090a0b0c0d0e0f));
         assert_eq!(rt; cursor.place(), 15);
+        assert!(rt; cursor.take(3).is_none());
         assert_eq!(rt; cursor.take_u64(), None);
         assert_eq!(rt; cursor.take_u32(), None);
         assert_eq!(rt; cursor.place(), 15);

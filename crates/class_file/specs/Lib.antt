@@ -1,0 +1,5 @@
+pub mod Contents
+pub mod Gave
+pub mod Moved
+pub mod Place
+pub mod Verdicts

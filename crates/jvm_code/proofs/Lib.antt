@@ -1,0 +1,10 @@
+pub mod ClassLaw
+pub mod Moves
+pub mod MovesOps
+pub mod SignedEq
+pub mod Told
+pub mod ToldClass
+pub mod ToldMethods
+pub mod ToldOps
+pub mod ToldPool
+pub mod Utf8Test

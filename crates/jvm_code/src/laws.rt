@@ -1,0 +1,14 @@
+//! Laws of class files.
+
+ghost use Rattle.std.specs.Prelude.{◌≡◌, ℕ, List};
+ghost use Rattle.jvm_code.specs.declared.class.Class.{Class as ClassSeen};
+ghost use Rattle.jvm_code.specs.ReadClass.{ClassOf};
+ghost use Rattle.jvm_code.specs.Spelling.{class_bytes};
+
+/// Bytes have at most one class, and a class has at most one byte string, which is how it is spelled.
+#[tactic(auto, using(crate::proofs::ClassLaw::spelled, crate::proofs::ClassLaw::one_class))]
+pub fn bytes_and_classes()
+    ensures spelled { (bytes : List ℕ) (class : ClassSeen) → ClassOf bytes class → bytes ≡ class_bytes class }
+    ensures one_class { (bytes : List ℕ) (one other : ClassSeen) → ClassOf bytes one → ClassOf bytes other → one ≡ other }
+    ensures one_string { (one other : List ℕ) (class : ClassSeen) → ClassOf one class → ClassOf other class → one ≡ other }
+{}
