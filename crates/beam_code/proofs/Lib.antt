@@ -3,5 +3,8 @@ pub mod FirstBreak
 pub mod Known
 pub mod SameCode
 pub mod PartsLaw
+pub mod KindLists
+pub mod SlotStates
 pub mod BelowLaw
 pub mod FlowBelow
+pub mod FlowPartsLaw

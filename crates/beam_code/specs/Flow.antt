@@ -1,6 +1,6 @@
 -- Where control goes from an instruction, and what the slots then hold (OTP 24, `genop.tab`), a clause for each kind of
 -- instruction. Reading a source takes a term; writing gives one.
-use Rattle.std.specs.Prelude.{ℕ, zero, suc, ◌+◌, Bool, true, false, nat_eq, nat_lt, nat_le, ◌&&◌, ◌||◌, if◌then◌else◌, List, [], ◌∷◌, map, Option, None, Some, is_some, is_none, option_map, option_and_then, unwrap_or}
+use Rattle.std.specs.Prelude.{ℕ, zero, suc, ◌+◌, Bool, true, false, nat_eq, nat_lt, nat_le, ◌&&◌, ◌||◌, if◌then◌else◌, List, [], ◌∷◌, map, Option, None, Some, is_some, is_none, option_map, option_and_then, unwrap_or, encode_utf8_all}
 use Rattle.std.specs.List.{list_all}
 use Rattle.std.specs.Option.{option_map_or}
 use Rattle.genop_table.specs.Builtins.{builtin_number, does_return}
@@ -186,7 +186,7 @@ read_by Apply n = n + 2
 read_by _ n = n
 
 abbrev pub builtin_called : Callee → Option ℕ
-builtin_called (External owner name arity) = builtin_number owner name arity
+builtin_called (External owner name arity) = builtin_number (encode_utf8_all owner) (encode_utf8_all name) arity
 builtin_called _ = None
 
 -- what is called may come back

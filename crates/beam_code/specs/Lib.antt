@@ -10,11 +10,14 @@ pub mod Labels
 pub mod LabelLaw
 pub mod SlotForm
 pub mod Slots
+pub mod Kinds
 pub mod Flow
 pub mod Good
 pub mod FlowLaw
 pub mod Weights
 pub mod Pool
+pub mod FlowParts
+pub mod FlowSeen
 pub mod WorkedSlots
 pub mod WorkedWeights
 pub mod Worked

@@ -1,6 +1,6 @@
--- How the kinds of slots are listed: labels rise, and no undefined x register stands last.
-use Rattle.std.specs.Prelude.{ℕ, Bool, true, false, not, nat_eq, nat_le, nat_lt, ◌&&◌, List, [], ◌∷◌, length, Option, None, Some}
-use Rattle.std.specs.List.{list_all}
+-- How the kinds of slots are listed: the labels of a tag rise, no undefined x register stands last, and there is a y
+-- register for each slot of the frame.
+use Rattle.std.specs.Prelude.{ℕ, Bool, true, false, nat_eq, nat_lt, ◌&&◌, ◌-◌, List, [], ◌∷◌, length, get_or, Option, None, Some}
 use Rattle.beam_code.specs.declared.kind.Kind.{Kind}
 use Rattle.beam_code.specs.declared.kind.Kind.TheVariants as k
 
@@ -22,19 +22,11 @@ abbrev pub is_kind : Kind → Bool
 is_kind (k.Tag labels) = rises labels
 is_kind _ = true
 
-abbrev pub ends_defined : List Kind → Bool
-ends_defined [] = true
-ends_defined (kind ∷ []) = not (is_undefined kind)
-ends_defined (kind ∷ more ∷ kinds) = ends_defined (more ∷ kinds)
+-- the last, if there is one, is undefined
+abbrev pub ends_undefined : List Kind → Bool
+ends_undefined kinds = is_undefined (get_or kinds (length kinds - 1) k.Term)
 
--- the kinds of the x registers from 0 on: at most 1,024, the last of which is not undefined
-abbrev pub are_xs : List Kind → Bool
-are_xs kinds = nat_le (length kinds) 1024 && ends_defined kinds && list_all is_kind kinds
-
+-- a frame of that many slots, none where there is no frame
 abbrev pub is_size : Option ℕ → ℕ → Bool
 is_size None n = nat_eq n 0
 is_size (Some size) n = nat_eq n size
-
--- the kinds of the y registers: one for each slot of the frame
-abbrev pub are_ys : Option ℕ → List Kind → Bool
-are_ys frame kinds = is_size frame (length kinds) && list_all is_kind kinds

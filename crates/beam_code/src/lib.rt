@@ -8,9 +8,11 @@
 
 mod decode;
 mod fits;
+mod flow;
 mod foreign;
 mod instr;
 mod kind;
+mod kinds;
 mod laws;
 mod module;
 mod opcode;
@@ -18,10 +20,11 @@ mod operand;
 mod slot_state;
 mod worked;
 
+pub use flow::{Branches, branches_of, builtin_called, holds, may_raise};
 pub use foreign::holds_foreign;
 pub use instr::Instr;
 pub use kind::Kind;
-pub use laws::{first_break_is_none, flow_is_monotone};
+pub use laws::{first_break_is_none, flow_is_in_parts, flow_is_monotone};
 pub use module::{Function, Module};
 pub use opcode::{CallKind, Callee, MapUpdate, Marking, Opcode, Piece, Unmatched};
 pub use operand::{LAST_COUNT, LAST_REGISTER, Operand, Reg, Src};

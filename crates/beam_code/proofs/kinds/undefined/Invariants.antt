@@ -1,0 +1,6 @@
+use Rattle.std.proofs.Common.{◌≡◌, replicate}
+use Rattle.beam_code.specs.declared.kind.Kind.TheVariants.{Undefined}
+use Rattle.beam_code.proofs.kinds.undefined.Given as goal
+
+abbrev pub invariant-loop : goal.invariant-loop
+invariant-loop l = l.kinds ≡ replicate l.counter Undefined
