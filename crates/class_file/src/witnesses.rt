@@ -226,26 +226,39 @@ fn cut(alloc: Global, bytes: &[u8], fields: &str) -> Result<usize, Fail> {
         }
         let expected = format!(in alloc; "no:{field}")?;
         if answer(alloc, &bytes[..length])?.as_str() != expected.as_str() {
-            wrong += 1;
+            wrong = usize::wrapping_add(wrong, 1);
         }
     }
     Ok(wrong)
 }
 
-// Each change of one byte has its answer.
+// Puts a byte in a place, and gives the one that stood there.
+fn put(bytes: &mut [u8], place: usize, value: u8) -> u8 {
+    match bytes.get_mut(place) {
+        Some(byte) => std::mem::replace(byte, value),
+        None => 0,
+    }
+}
+
+// Whether the bytes have another answer than is said, with one of them changed.
+fn is_wrong(alloc: Global, bytes: &mut [u8], row: &str) -> Result<bool, Fail> {
+    let mut words = row.trim().split(' ');
+    let place = word(&mut words).parse::<usize>()?;
+    let value = word(&mut words).parse::<u8>()?;
+    let before = put(bytes, place, value);
+    let answer = answer(alloc, bytes)?;
+    let _ = put(bytes, place, before);
+    Ok(answer.as_str() != word(&mut words))
+}
+
+// How many changes of one byte have another answer than is said.
 fn changed(alloc: Global, bytes: &mut [u8], rows: &str) -> Result<usize, Fail> {
     let mut wrong = 0;
     for line in rows.lines() {
         for row in line.split(',') {
-            let mut words = row.trim().split(' ');
-            let place = word(&mut words).parse::<usize>()?;
-            let value = word(&mut words).parse::<u8>()?;
-            let before = bytes.get(place).copied().ok_or("a byte")?;
-            bytes[place] = value;
-            if answer(alloc, bytes)?.as_str() != word(&mut words) {
-                wrong += 1;
+            if is_wrong(alloc, bytes, row)? {
+                wrong = usize::wrapping_add(wrong, 1);
             }
-            bytes[place] = before;
         }
     }
     Ok(wrong)

@@ -234,7 +234,7 @@ fn each_opcode(rt: HostRuntime) -> Result<(), Fail> {
         write!(operands, "{:?}", row.operands)?;
         assert_eq!(rt; operands.as_str(), word(&mut words));
         assert_eq!(rt; row.name, name);
-        count += 1;
+        count = u16::wrapping_add(count, 1);
     }
     assert_eq!(rt; count, 60);
     assert!(rt; mnemonic(0).is_none());
@@ -257,7 +257,7 @@ fn each_runtime_method(rt: HostRuntime) -> Result<(), Fail> {
         );
         assert_eq!(rt; runtime_row(number).ok_or("a row")?.name, name);
         assert_eq!(rt; runtime(name.as_bytes(), b"()V"), None);
-        count += 1;
+        count = u16::wrapping_add(count, 1);
     }
     assert_eq!(rt; count, 52);
     assert!(rt; runtime_row(0).is_none());
