@@ -13,8 +13,6 @@ mod reading;
 mod source;
 mod switches;
 mod verdict;
-#[cfg(test)]
-mod witnesses;
 
 pub use fault::ClassFault;
 pub use reading::parse;

@@ -95,30 +95,3 @@ fn piece(bytes: &[u8], place: usize, count: usize) -> &[u8]
 {
     &bytes[place..place + count]
 }
-
-#[cfg(test)]
-mod tests {
-    use super::*;
-    use std::test::Fail;
-
-    const BYTES: [u8; 17] = [1, 2, 3, 4, 5, 6, 7, 8, 9, 10, 11, 12, 13, 14, 15, 255, 254];
-
-    #[test]
-    fn takes_numbers(rt: HostRuntime) -> Result<(), Fail> {
-        let mut cursor = Cursor::new(&BYTES);
-        assert_eq!(rt; cursor.take_u8(), Some(1));
-        assert_eq!(rt; cursor.take_u16(), Some(0x0203));
-        assert_eq!(rt; cursor.take_u32(), Some(0x04050607));
-        assert_eq!(rt; cursor.take_u64(), Some(0x08090a0b0c0d0e0f));
-        assert_eq!(rt; cursor.place(), 15);
-        assert!(rt; cursor.take(3).is_none());
-        assert_eq!(rt; cursor.take_u64(), None);
-        assert_eq!(rt; cursor.take_u32(), None);
-        assert_eq!(rt; cursor.place(), 15);
-        assert_eq!(rt; cursor.take_u16(), Some(0xfffe));
-        assert_eq!(rt; cursor.take_u16(), None);
-        assert_eq!(rt; cursor.take_u8(), None);
-        assert_eq!(rt; cursor.place(), 17);
-        Ok(())
-    }
-}

@@ -16,8 +16,6 @@ mod builtin;
 mod class;
 mod laws;
 mod test;
-#[cfg(test)]
-mod tests;
 mod text;
 mod worked;
 

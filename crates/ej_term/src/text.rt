@@ -85,31 +85,3 @@ impl Hash for Text {
         self.as_str().hash(state);
     }
 }
-
-#[cfg(test)]
-mod tests {
-    use super::*;
-    use std::hash::DefaultHasher;
-    use std::test::Fail;
-
-    fn hash_of(text: &Text) -> u64 {
-        let mut state = DefaultHasher::new();
-        text.hash(&mut state);
-        state.finish()
-    }
-
-    #[test]
-    fn keeps_its_characters(rt: HostRuntime) -> Result<(), Fail> {
-        for s in ["", "m", "a b", "\u{e9}\u{10ffff}"] {
-            let text = Text::make(rt.alloc(), s)?;
-            assert_eq!(rt; text.as_str(), s);
-            let copy = text.clone()?;
-            assert!(rt; copy == text, "{s}");
-            assert_eq!(rt; hash_of(&copy), hash_of(&text));
-        }
-        let one = Text::make(rt.alloc(), "ab")?;
-        let other = Text::make(rt.alloc(), "ba")?;
-        assert!(rt; one != other);
-        Ok(())
-    }
-}

@@ -11,8 +11,6 @@ mod genop;
 pub mod instructions;
 mod part;
 pub mod tests;
-#[cfg(test)]
-mod whole_tables;
 
 pub use builtins::{
     BuiltinRow, Conduct, Standing, builtin, builtin_row, guard, is_guard_name, returns,

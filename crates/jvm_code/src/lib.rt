@@ -11,8 +11,6 @@ mod methods;
 mod modified_utf8;
 mod names;
 mod opcodes;
-#[cfg(test)]
-mod tables_test;
 mod types;
 
 pub use class::{Class, Constant, Method, Op, Width};

@@ -11,8 +11,6 @@ mod arithmetic;
 mod bag;
 mod booleans;
 mod builtins;
-#[cfg(test)]
-mod cases;
 mod digits;
 mod elements;
 mod exceptions;
@@ -27,8 +25,6 @@ mod order;
 mod raise;
 mod read;
 mod sized;
-#[cfg(test)]
-mod tests;
 mod tuples;
 
 pub use answer::{PureAnswer, Raised};

@@ -11,8 +11,6 @@ mod laws;
 mod plain;
 mod printer;
 mod reader;
-#[cfg(test)]
-mod tests;
 mod work;
 mod worked;
 
