@@ -8,6 +8,8 @@ mod instruction_cases;
 #[cfg(test)]
 mod instructions;
 #[cfg(test)]
+mod many_files;
+#[cfg(test)]
 mod runs;
 #[cfg(test)]
 mod source_rows;

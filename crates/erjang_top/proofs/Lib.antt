@@ -1,5 +1,6 @@
 mod Said
 mod Worked
+mod ManyFiles
 mod Answered
 pub mod Reading
 pub mod OneSource

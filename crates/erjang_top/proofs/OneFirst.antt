@@ -1,6 +1,7 @@
--- A source has one first refusal, or none.
-use Rattle.std.proofs.Common.{◌≡◌, ℕ, ◌<◌, ◌≤◌, ◌⊎◌, inl, inr, List, length, Option, None, Some, IsSomeAnd, refl, sym, ap, ap₂, ◌∙◌, subst, arith}
+-- A command is refused for one file and cause first, or for none.
+use Rattle.std.proofs.Common.{◌≡◌, ℕ, ◌<◌, ◌≤◌, ◌⊎◌, inl, inr, List, [], ◌∷◌, length, Option, None, Some, IsSomeAnd, refl, sym, ap, ap₂, ◌∙◌, subst, map, arith}
 use Rattle.std.specs.FinMap as files
+use Rattle.std.specs.List.{AllZip}
 use Rattle.asm_terms.specs.Forms.{AreForms, FirstFault, Cause}
 use Rattle.asm_terms.specs.Forms as text
 use Rattle.asm_terms.specs.declared.fault.TextFault.{TextFault}
@@ -16,7 +17,7 @@ use Rattle.ej_outside.specs.Shelf.{Files}
 use Rattle.erjang_top.specs.declared.fault.SourceFault.{SourceFault}
 use Rattle.erjang_top.specs.declared.fault.SourceFault.TheVariants.{Text, Form, Label, NotBuilt}
 use Rattle.erjang_top.specs.first_path.Accepted.{Accepted}
-use Rattle.erjang_top.specs.Answers.{Refusal, Absent, Longer, OfSource, First, longest_file}
+use Rattle.erjang_top.specs.Answers.{Refusal, Absent, Longer, OfSource, SameModule, Blame, IsOf, IsGood, IsBad, StopsAt, AllRead, First, first_twice, longest_file}
 use Rattle.erjang_top.specs.Sources.{IsSource, HasBreak, HasTextFault, HasCause}
 use Rattle.erjang_top.specs.Words.{Compile}
 use Rattle.erjang_top.proofs.Reading.{reads_wholly, same_fault}
@@ -156,18 +157,87 @@ of_none : (o : Option (List ℕ)) → o ≡ None → Judged o (Some Absent)
 of_none None e = record { verdict = NotHeld; judges = refl; told = refl }
 of_none (Some bytes) e = absurd (cc)
 
-of_good : (o : Option (List ℕ)) → IsSomeAnd o (λ bytes. (length bytes ≤ longest_file) × (m : Module) × IsSource bytes m) → Judged o None
-of_good None p = absurd p
-of_good (Some bytes) p = record { verdict = Good; judges = inr (p.0, (p.1, p.2)); told = refl }
+of_good : (o : Option (List ℕ)) (m : Module) → IsSomeAnd o (λ bytes. (length bytes ≤ longest_file) × IsSource bytes m) → Judged o None
+of_good None m p = absurd p
+of_good (Some bytes) m p = record { verdict = Good; judges = inr (p.0, (m, p.1)); told = refl }
 
-judged : (held : Files) (w : Compile) (first : Option Refusal) → First held w first → Judged (files.get held w.file) first
-judged held w (Some Absent) p = of_none _ p
-judged held w (Some Longer) p = of_long _ p
-judged held w (Some (OfSource fault)) p = of_bytes _ _ (Bad fault) refl p
-judged held w None p = of_good _ p
+-- what a file is by itself
+abbrev Alone : Files → List ℕ → Option Refusal → Type 0
+Alone held file (Some cause) = IsBad held file cause
+Alone held file None = IsGood held file
 
-pub one_first : (held : Files) (w : Compile) (a b : Option Refusal) → First held w a → First held w b → a ≡ b
-one_first held w a b p q =
-    let x = judged held w a p in
-    let y = judged held w b q in
-    x.told ∙ ap refusal_in (one_verdict (files.get held w.file) x.verdict y.verdict x.judges y.judges) ∙ sym y.told
+judged : (held : Files) (file : List ℕ) (first : Option Refusal) → Alone held file first → Judged (files.get held file) first
+judged held file (Some Absent) p = of_none _ p
+judged held file (Some Longer) p = of_long _ p
+judged held file (Some (OfSource fault)) p = of_bytes _ _ (Bad fault) refl p
+judged held file (Some (SameModule earlier)) p = absurd p
+judged held file None p = of_good _ p.0 p.1
+
+one_alone : (held : Files) (file : List ℕ) (a b : Option Refusal) → Alone held file a → Alone held file b → a ≡ b
+one_alone held file a b p q =
+    let x = judged held file a p in
+    let y = judged held file b q in
+    x.told ∙ ap refusal_in (one_verdict (files.get held file) x.verdict y.verdict x.judges y.judges) ∙ sym y.told
+
+some_same : {A : Type 0} (x y : A) → ◌≡◌ {A = Option A} (Some x) (Some y) → x ≡ y
+some_same x y e = cc
+
+some_none : {A G : Type 0} (x : A) → ◌≡◌ {A = Option A} (Some x) None → G
+some_none x e = absurd (cc)
+
+one_bad : (held : Files) (file : List ℕ) (a b : Refusal) → IsBad held file a → IsBad held file b → a ≡ b
+one_bad held file a b p q = some_same a b (one_alone held file (Some a) (Some b) p q)
+
+not_good_and_bad : {G : Type 0} (held : Files) (file : List ℕ) (a : Refusal) → IsBad held file a → IsGood held file → G
+not_good_and_bad held file a p q = some_none a (one_alone held file (Some a) None p q)
+
+abbrev made : List ℕ → Refusal → Blame
+made file cause = record { file = file; cause = cause }
+
+same_blame : (a b : Blame) → a.file ≡ b.file → a.cause ≡ b.cause → a ≡ b
+same_blame a b e f = ap₂ made e f
+
+stops_same : (held : Files) (files : List (List ℕ)) (a b : Blame) → StopsAt held files a → StopsAt held files b → a ≡ b
+stops_same held [] a b p q = absurd p
+stops_same held (file ∷ files) a b (inl p) (inl q) = same_blame a b (p.0 ∙ sym q.0) (one_bad held file a.cause b.cause p.1 q.1)
+stops_same held (file ∷ files) a b (inl p) (inr q) = not_good_and_bad held file a.cause p.1 q.0
+stops_same held (file ∷ files) a b (inr p) (inl q) = not_good_and_bad held file b.cause q.1 p.0
+stops_same held (file ∷ files) a b (inr p) (inr q) = stops_same held files a b p.1 q.1
+
+stops_both : (held : Files) (files : List (List ℕ)) (a b : Option Blame) → IsSomeAnd a (StopsAt held files) → IsSomeAnd b (StopsAt held files) → a ≡ b
+stops_both held files None b p q = absurd p
+stops_both held files (Some a) None p q = absurd q
+stops_both held files (Some a) (Some b) p q = ap (λ (x : Blame). Some x) (stops_same held files a b p q)
+
+-- what stops is not all read
+not_all : {G : Type 0} (held : Files) (files : List (List ℕ)) (ms : List Module) (a : Blame) → StopsAt held files a → AllZip (IsOf held) files ms → G
+not_all held [] ms a p q = absurd p
+not_all held (file ∷ files) [] a p q = absurd q
+not_all held (file ∷ files) (m ∷ ms) a (inl p) q = not_good_and_bad held file a.cause p.1 (m, q.0)
+not_all held (file ∷ files) (m ∷ ms) a (inr p) q = not_all held files ms a p.1 q.1
+
+stops_or_read : {G : Type 0} (held : Files) (w : Compile) (a b : Option Blame) → IsSomeAnd a (StopsAt held w.files) → AllRead held w b → G
+stops_or_read held w None b p q = absurd p
+stops_or_read held w (Some a) b p q = not_all held w.files q.modules a p q.sources
+
+-- a file is the source of one module
+one_of : (o : Option (List ℕ)) (m n : Module)
+    → IsSomeAnd o (λ bytes. (length bytes ≤ longest_file) × IsSource bytes m) → IsSomeAnd o (λ bytes. (length bytes ≤ longest_file) × IsSource bytes n) → m ≡ n
+one_of None m n p q = absurd p
+one_of (Some bytes) m n p q = one_module bytes m n p.1.0 q.1.0
+
+pub same_modules : (held : Files) (files : List (List ℕ)) (ms ns : List Module) → AllZip (IsOf held) files ms → AllZip (IsOf held) files ns → ms ≡ ns
+same_modules held [] [] [] p q = refl
+same_modules held [] (m ∷ ms) ns p q = absurd p
+same_modules held [] [] (n ∷ ns) p q = absurd q
+same_modules held (file ∷ files) [] ns p q = absurd p
+same_modules held (file ∷ files) (m ∷ ms) [] p q = absurd q
+same_modules held (file ∷ files) (m ∷ ms) (n ∷ ns) p q =
+    ap₂ (λ (x : Module) (xs : List Module). x ∷ xs) (one_of _ m n p.0 q.0) (same_modules held files ms ns p.1 q.1)
+
+pub one_first : (held : Files) (w : Compile) (a b : Option Blame) → First held w a → First held w b → a ≡ b
+one_first held w a b (inl p) (inl q) = stops_both held w.files a b p q
+one_first held w a b (inl p) (inr q) = stops_or_read held w a b p q
+one_first held w a b (inr p) (inl q) = stops_or_read held w b a q p
+one_first held w a b (inr p) (inr q) =
+    p.twice ∙ ap (λ (ms : List Module). first_twice [] w.files (map (λ m. m.name) ms)) (same_modules held w.files p.modules q.modules p.sources q.sources) ∙ sym q.twice

@@ -1,12 +1,12 @@
 -- Writing a text in pieces.
-use Rattle.std.proofs.Common.{◌≡◌, ℕ, ◌+◌, ◌<◌, ◌≤◌, List, ◌++◌, length, take, drop, Option, None, Some, Result, Ok, Err, IsErrAnd, refl, sym, ap, ◌∙◌, append_assoc, length-append, arith}
+use Rattle.std.proofs.Common.{◌≡◌, ℕ, ◌+◌, ◌<◌, ◌≤◌, inl, inr, List, [], ◌∷◌, ◌++◌, length, take, drop, String, string_bytes, Option, None, Some, Result, Ok, Err, IfOk, IsErrAnd, refl, sym, ap, subst, ◌∙◌, append_assoc, length-append, arith}
 use Rattle.std.specs.Option.{option_map}
 use Rattle.std.proofs.lemmas.List.{take-append-drop, take-append-le}
 use Rattle.std.proofs.Math.Seq.{take-append_seam, take-append-add}
 use Rattle.ej_outside.specs.Sink.{SinkState, Takes, Refuses}
 use Rattle.ej_outside.specs.declared.fault.Failed as failed
-use Rattle.erjang_top.specs.Answers.{TookAll, TookFront}
-use Rattle.erjang_top.specs.Work.{WritesAll}
+use Rattle.erjang_top.specs.Answers.{Refusal, TookAll, TookFront, Says, cause_text}
+use Rattle.erjang_top.specs.Work.{WritesAll, SaysRefusal, RefusesFor}
 
 -- what was appended twice was appended at once
 append_twice : (o : Option (List ℕ)) (a b : List ℕ) → option_map (λ (taken : List ℕ). taken ++ b) (option_map (λ (taken : List ℕ). taken ++ a) o) ≡ option_map (λ (taken : List ℕ). taken ++ (a ++ b)) o
@@ -68,3 +68,9 @@ pub fault_passed_on : (s u : SinkState) (text : List ℕ) (r : Result (Unit {0})
     → IsErrAnd r (λ e. e ≡ fault) → TookFront s text u → WritesAll s text r u
 fault_passed_on s u text (Ok done) fault e p = absurd e
 fault_passed_on s u text (Err other) fault e p = p
+
+-- a line that took memory about a refused file
+pub said_refused : {Z E : Type 0} (file : List ℕ) (cause : Refusal) (r : Result (String Z) E) (status : ℕ) (old new : SinkState)
+    → IfOk r (λ said. string_bytes said ≡ cause_text cause ++ 10 ∷ []) → SaysRefusal file r status old new → RefusesFor (record { file = file; cause = cause }) status old new
+said_refused file cause (Ok said) status old new e p = inl (subst (λ (text : List ℕ). Says 1 (file ++ text) status old new) e p)
+said_refused file cause (Err none) status old new e p = inr p

@@ -1,12 +1,16 @@
 -- What the program answers to each status, what it says, and what stands afterwards.
-use Rattle.std.specs.Prelude.{◌≡◌, ◌≢◌, ℕ, ◌-◌, ◌^◌, ◌<◌, ◌≤◌, ◌⊎◌, List, [], ◌∷◌, ◌++◌, length, take, codes, Option, None, Some, IfSome, IsSomeAnd}
+use Rattle.std.specs.Prelude.{◌≡◌, ◌≢◌, ℕ, ◌+◌, ◌-◌, ◌^◌, ◌<◌, ◌≤◌, ◌⊎◌, List, [], ◌∷◌, ◌++◌, length, map, take, codes, Option, None, Some, if◌then◌else◌, IfSome, IsSomeAnd}
+use Rattle.std.specs.Fmt.{decimal}
+use Rattle.std.specs.List.{AllByRecursion, AllZip, list_any, position_or_len}
 use Rattle.std.specs.Option.{option_map}
+use Rattle.std.specs.Str.{bytes_eq}
 use Rattle.std.specs.FinMap as files
 use Rattle.beam_code.specs.declared.module.Module.{Module}
 use Rattle.ej_outside.specs.Counts.{Same, Rises}
 use Rattle.ej_outside.specs.Shelf.{Files, ShelfState, MayReplace}
 use Rattle.ej_outside.specs.Sink.{SinkState}
 use Rattle.erjang_top.specs.first_path.Emitted.{Emitted}
+use Rattle.erjang_top.specs.first_path.Runs.{TogetherAs}
 use Rattle.erjang_top.specs.Mangle.{mangle}
 use Rattle.erjang_top.specs.declared.fault.SourceFault.{SourceFault}
 use Rattle.erjang_top.specs.Sources.{IsSource, HasCause, fault_text}
@@ -20,37 +24,80 @@ longest_file = 67108864
 abbrev pub class_file : List ℕ → List ℕ → List ℕ
 class_file outdir module' = outdir ++ codes "/" ++ mangle module' ++ codes ".class"
 
+-- Which command is refused.
+
 -- why a file is refused
 pub data Refusal : Type 0 where
   Absent : Refusal
   Longer : Refusal
   -- its bytes, which are not too many, are refused
   OfSource : SourceFault → Refusal
+  -- its module has the name of that of an earlier file, which stands at this place from 1
+  SameModule : ℕ → Refusal
 
--- the bytes of that file that are held
-abbrev pub Held : Files → Compile → (List ℕ → Type 0) → Type 0
-Held held w P = IsSomeAnd (files.get held w.file) P
+-- a file that is refused, and why
+pub record Blame : Type 0 where
+  pub file : List ℕ
+  pub cause : Refusal
 
--- the source has that refusal, or none
-abbrev pub First : Files → Compile → Option Refusal → Type 0
-First held w (Some Absent) = files.get held w.file ≡ None
-First held w (Some Longer) = Held held w (λ bytes. longest_file < length bytes)
-First held w (Some (OfSource fault)) = Held held w (λ bytes. (length bytes ≤ longest_file) × HasCause bytes fault)
-First held w None = Held held w (λ bytes. (length bytes ≤ longest_file) × (m : Module) × IsSource bytes m)
+-- the bytes of a file that are held
+abbrev pub Held : Files → List ℕ → (List ℕ → Type 0) → Type 0
+Held held file P = IsSomeAnd (files.get held file) P
+
+-- the file is the source of the module
+abbrev pub IsOf : Files → List ℕ → Module → Type 0
+IsOf held file m = Held held file (λ bytes. (length bytes ≤ longest_file) × IsSource bytes m)
+
+abbrev pub IsGood : Files → List ℕ → Type 0
+IsGood held file = (m : Module) × IsOf held file m
+
+-- the file is refused by itself, for that cause
+abbrev pub IsBad : Files → List ℕ → Refusal → Type 0
+IsBad held file Absent = files.get held file ≡ None
+IsBad held file Longer = Held held file (λ bytes. longest_file < length bytes)
+IsBad held file (OfSource fault) = Held held file (λ bytes. (length bytes ≤ longest_file) × HasCause bytes fault)
+IsBad held file (SameModule earlier) = ⊥
+
+-- this is the first of the files that is refused by itself
+abbrev pub StopsAt : Files → List (List ℕ) → Blame → Type 0
+StopsAt held [] blame = ⊥
+StopsAt held (file ∷ rest) blame = ((blame.file ≡ file) × IsBad held file blame.cause) ⊎ (IsGood held file × StopsAt held rest blame)
+
+-- the first of the files whose module has one of the earlier names
+abbrev pub first_twice : (earlier : List (List ℕ)) → (files names : List (List ℕ)) → Option Blame
+first_twice earlier [] names = None
+first_twice earlier (file ∷ files) [] = None
+first_twice earlier (file ∷ files) (name ∷ names) =
+    if list_any (bytes_eq name) earlier
+    then Some (record { file = file; cause = SameModule (position_or_len (bytes_eq name) earlier + 1) })
+    else first_twice (earlier ++ name ∷ []) files names
+
+-- each file is the source of a module, and what is first wrong with these is a name that stands twice, or nothing
+pub record AllRead (held : Files) (w : Compile) (first : Option Blame) : Type 0 where
+  pub modules : List Module
+  pub sources : AllZip (IsOf held) w.files modules
+  pub twice : first ≡ first_twice [] w.files (map (λ m. m.name) modules)
+
+-- what a command is refused for first, if anything
+abbrev pub First : Files → Compile → Option Blame → Type 0
+First held w first = IsSomeAnd first (StopsAt held w.files) ⊎ AllRead held w first
+
+-- What is said.
 
 -- what is said of a refusal
 abbrev pub cause_text : Refusal → List ℕ
 cause_text Absent = codes ": absent"
 cause_text Longer = codes ": longer than 67108864 bytes"
 cause_text (OfSource fault) = codes ": " ++ fault_text fault
+cause_text (SameModule earlier) = codes ": same module as file " ++ decimal earlier
 
 -- a line about a file, with its newline
 abbrev pub line : List ℕ → List ℕ → List ℕ
 line file said = file ++ (said ++ 10 ∷ [])
 
--- the line about a command's file
-abbrev pub message : Compile → List ℕ → List ℕ
-message w said = line w.file said
+-- the line about a refused file
+abbrev pub message : Blame → List ℕ
+message blame = line blame.file (cause_text blame.cause)
 
 abbrev pub usage_line : List ℕ
 usage_line = codes "usage: erjang compile OUTDIR FILE... | beam SCRIPT FILE... | run SCRIPT CLASS... | verify CLASS... | sample N\n"
@@ -80,26 +127,52 @@ abbrev pub Counted : Refusal → ShelfState → ShelfState → Type 0
 Counted Absent old new = Unchanged old new Same Rises Same
 Counted Longer old new = Unchanged old new Same Same Rises
 Counted (OfSource fault) old new = Unchanged old new Same Same Same
+Counted (SameModule earlier) old new = Unchanged old new Same Same Same
 
--- the source is refused for that cause
-pub record Refused (w : Compile) (cause : Refusal) (old new : ShelfState) : Type 0 where
-  pub told : IfSome old.held (λ held. First held w (Some cause))
-  -- and for no other
-  pub only : IfSome old.held (λ held. (other : Option Refusal) → First held w other → other ≡ Some cause)
-  pub counted : Counted cause old new
+-- the file is one of the command's, and where the contents are told each before it is the source of a module
+pub record Reached (held : Option Files) (w : Compile) (file : List ℕ) : Type 0 where
+  pub before : List (List ℕ)
+  pub after : List (List ℕ)
+  pub is : w.files ≡ before ++ file ∷ after
+  pub good : IfSome held (λ held. AllByRecursion (IsGood held) before)
 
--- what a shelf holds with the class of an accepted module's source beside what it held
-pub record Compiled (w : Compile) (held : Files) (new : Files) : Type 0 where
-  pub bytes : List ℕ
-  pub source : files.get held w.file ≡ Some bytes
-  pub short : length bytes ≤ longest_file
-  pub module' : Module
-  pub is_source : IsSource bytes module'
-  -- and they are the source of no other module
-  pub only : (other : Module) → IsSource bytes other → other ≡ module'
-  pub class : List ℕ
-  pub emitted : Emitted module' class
-  pub stands : new ≡ files.insert held (class_file w.outdir module'.name) class
+-- the command is refused for that file
+pub record Refused (w : Compile) (blame : Blame) (old new : ShelfState) : Type 0 where
+  pub reached : Reached old.held w blame.file
+  pub told : IfSome old.held (λ held. First held w (Some blame))
+  -- and for nothing else
+  pub only : IfSome old.held (λ held. (other : Option Blame) → First held w other → other ≡ Some blame)
+  pub counted : Counted blame.cause old new
+
+-- What stands.
+
+-- a file's name, and the bytes that are put under it
+abbrev pub Put : Type 0
+Put = List ℕ × List ℕ
+
+-- what is held once these are put
+abbrev pub put_each : List Put → Files → Files
+put_each [] held = held
+put_each (p ∷ ps) held = put_each ps (files.insert held p.0 p.1)
+
+-- what is put: for each of the modules, in order, the bytes of its class under its name
+pub record ArePuts (held : Files) (w : Compile) (puts : List Put) : Type 0 where
+  pub modules : List Module
+  pub sources : AllZip (IsOf held) w.files modules
+  -- and the files are the sources of no others
+  pub only : (others : List Module) → AllZip (IsOf held) w.files others → others ≡ modules
+  -- no two of one name
+  pub differ : first_twice [] w.files (map (λ m. m.name) modules) ≡ None
+  pub named : map (λ p. p.0) puts ≡ map (λ m. class_file w.outdir m.name) modules
+  pub emitted : AllZip Emitted modules (map (λ p. p.1) puts)
+  -- and the classes run together as the modules do
+  pub together : TogetherAs modules (map (λ p. p.1) puts)
+
+-- what a shelf holds with the classes of accepted modules' sources beside what it held
+pub record Compiled (w : Compile) (held new : Files) : Type 0 where
+  pub puts : List Put
+  pub are : ArePuts held w puts
+  pub stands : new ≡ put_each puts held
 
 -- no count of a shelf changed
 abbrev pub SameCounts : ShelfState → ShelfState → Type 0
@@ -111,46 +184,51 @@ Told None None P = Unit {0}
 Told (Some held) (Some new) P = P held new
 Told _ _ P = ⊥
 
--- the put failed: an accepted source's class may stand in part, under its own name alone
+-- a put failed: those before it stand whole, its class may stand in part, under its own name alone, and no other is put
 pub record PutFailed (w : Compile) (old new : ShelfState) : Type 0 where
-  pub accepted : IfSome old.held (λ held. First held w None)
-  pub name : List ℕ
-  pub class : List ℕ
-  pub of_source : IfSome old.held (λ held. Held held w (λ bytes. (m : Module) × IsSource bytes m × Emitted m class × (name ≡ class_file w.outdir m.name)))
-  pub contents : MayReplace old.held name class new.held
+  pub before : List Put
+  pub failed : Put
+  pub after : List Put
+  pub are : IfSome old.held (λ held. ArePuts held w (before ++ failed ∷ after))
+  pub contents : MayReplace (option_map (put_each before) old.held) failed.0 failed.1 new.held
   pub read_faults : Same old.read_faults new.read_faults
   pub put_faults : Rises old.put_faults new.put_faults
   pub misses : Same old.misses new.misses
   pub longs : Same old.longs new.longs
+
+-- a file could not be read, and none before it is refused
+pub record ReadFailed (w : Compile) (file : List ℕ) (old new : ShelfState) : Type 0 where
+  pub reached : Reached old.held w file
+  pub counted : Unchanged old new Rises Same Same
 
 -- a count that did not rise and does not stand at its end
 abbrev pub Quiet : ℕ → ℕ → Type 0
 Quiet old new = (new ≡ old) × (new ≢ 2 ^ 64 - 1)
 
 -- the status that tells a refusal or none
-abbrev pub status_of : Option Refusal → ℕ
+abbrev pub status_of : Option Blame → ℕ
 status_of None = 0
-status_of (Some cause) = 1
+status_of (Some blame) = 1
 
 -- the answer to `compile`
 pub record Answers (w : Compile) (status : ℕ) (old new : ShelfState) (err err' : SinkState) : Type 0 where
-  -- done: the class of the source stands beside what was held, and nothing was said
+  -- done: the classes of the sources stand beside what was held, and nothing was said
   pub done : status ≡ 0 → Told old.held new.held (Compiled w) × SameCounts old new × (err' ≡ err)
-  -- refused: for one cause, which was said
-  pub refused : status ≡ 1 → (cause : Refusal) × Refused w cause old new × TookAll err (message w (cause_text cause)) err'
+  -- refused: for one file and cause, which were said
+  pub refused : status ≡ 1 → (blame : Blame) × Refused w blame old new × TookAll err (message blame) err'
   pub never_usage : status ≢ 2
-  -- the file could not be read, which was said
-  pub read_failed : status ≡ 3 → Unchanged old new Rises Same Same × TookAll err (message w (codes ": read failed")) err'
-  -- a write failed: that of a message, of which a front was said, or that of the class
+  -- a file could not be read, which was said
+  pub read_failed : status ≡ 3 → (file : List ℕ) × ReadFailed w file old new × TookAll err (line file (codes ": read failed")) err'
+  -- a write failed: that of a message, of which a front was said, or that of a class
   pub write_failed : status ≡ 4
-      → ((cause : Refusal) × Refused w cause old new × TookFront err (message w (cause_text cause)) err')
-      ⊎ ((Unchanged old new Rises Same Same × TookFront err (message w (codes ": read failed")) err')
+      → ((blame : Blame) × Refused w blame old new × TookFront err (message blame) err')
+      ⊎ (((file : List ℕ) × ReadFailed w file old new × TookFront err (line file (codes ": read failed")) err')
       ⊎ (PutFailed w old new × (err' ≡ err)))
   -- memory was wanting: nothing changed and nothing was said
   pub no_memory : status ≡ 5 → Unchanged old new Same Same Same × (err' ≡ err)
   pub within : status ≤ 5
   -- what no rule refuses is compiled, and what one refuses is refused, but for want of memory
-  pub complete : (held : Files) (first : Option Refusal) → old.held ≡ Some held → First held w first
+  pub complete : (held : Files) (first : Option Blame) → old.held ≡ Some held → First held w first
       → Quiet old.read_faults new.read_faults → Quiet old.put_faults new.put_faults → Quiet err.faults err'.faults
       → (status ≡ status_of first) ⊎ (status ≡ 5)
 

@@ -1,4 +1,4 @@
-//! Why a source has no class.
+//! Why files have no classes.
 
 use asm_module::FormFault;
 use asm_terms::TextFault;
@@ -37,7 +37,7 @@ impl fmt::Display for SourceFault {
     }
 }
 
-/// Why no class was put.
+/// Why a file has no class.
 #[derive(Drop)]
 pub(crate) enum Fault {
     /// There is no file of that name.
@@ -48,8 +48,8 @@ pub(crate) enum Fault {
     ReadFailed,
     /// The source is refused.
     Refused(SourceFault),
-    /// The class could not be put.
-    PutFailed,
+    /// Its module has the name of an earlier file's, which stands at that place from 1.
+    SameModule { earlier: usize },
     /// Memory was wanting.
     NoMemory,
 }
@@ -62,6 +62,28 @@ impl From<AllocError> for Fault {
 
     fn from(_: AllocError) -> Fault {
         Fault::NoMemory
+    }
+}
+
+/// Why not all classes were put.
+#[derive(Drop)]
+pub(crate) enum Stopped<'a> {
+    /// The file of that name has none; no class was put.
+    At(&'a str, Fault),
+    /// A class could not be put.
+    PutFailed,
+    /// Memory was wanting; no class was put.
+    NoMemory,
+}
+
+impl<'a> From<AllocError> for Stopped<'a> {
+    ghost use Rattle.std.specs.Prelude.{◌≡◌};
+    ghost use Rattle.erjang_top.specs.declared.fault.Stopped.TheVariants.{NoMemory};
+
+    ghost from_gives = { λ _ stopped. stopped ≡ NoMemory };
+
+    fn from(_: AllocError) -> Stopped<'a> {
+        Stopped::NoMemory
     }
 }
 

@@ -10,6 +10,6 @@ mod report;
 mod source;
 mod words;
 
-pub use first_path::laws::{classes_run_together, read_modules_are_in_range};
+pub use first_path::laws::read_modules_are_in_range;
 pub use first_path::scripts::worked_runs;
 pub use program::erjang;

@@ -12,16 +12,18 @@ use std::alloc::Global;
 
 /// Does what the words say, and answers the status. The words leave out the program's name.
 ///
-/// `compile OUTDIR FILE`, with no empty word, puts the class of the source FILE under `OUTDIR/NAME.class`, where
-/// NAME is the mangled name of its module. It takes all its memory before the put, and writes nothing on `out`.
+/// `compile OUTDIR FILE...`, with 1 to 1,000 files and no empty word, puts the class of each source FILE under
+/// `OUTDIR/NAME.class`, where NAME is the mangled name of its module. The files are read in the order of the words, and
+/// each is wholly checked before the next is read; then no two modules may have one name; then the classes are put. It
+/// takes all its memory before the first put, and writes nothing on `out`.
 ///
 /// | Status | Cause | Line on `err` |
 /// |---|---|---|
-/// | 0 | the class stands | none |
-/// | 1 | FILE is refused | `FILE: ` and the first cause |
+/// | 0 | the classes stand | none |
+/// | 1 | FILE is the first that is refused | `FILE: ` and the first cause |
 /// | 2 | other words | how the program is used |
-/// | 3 | FILE could not be read | `FILE: read failed` |
-/// | 4 | the put failed, or a write on `err` | none, or a front of one of those |
+/// | 3 | FILE could not be read, and none before it is refused | `FILE: read failed` |
+/// | 4 | a put failed, or a write on `err` | none, or a front of one of those |
 /// | 5 | memory was wanting | none |
 ///
 /// | First cause | When |
@@ -36,8 +38,9 @@ use std::alloc::Global;
 /// | `function F: bad entry` | the function does not begin as it has to |
 /// | `function F, instruction I: bad arity` | a call or a fun of another arity than what it names |
 /// | `not built` | the module is none that is compiled so far |
+/// | `same module as file K` | every file is a module's, and this is the first with the name of an earlier one's, file K |
 ///
-/// Forms, functions and the instructions of one count from 0; WORD is in UTF-8.
+/// Files count from 1; forms, functions and the instructions of one count from 0; WORD is in UTF-8.
 pub fn erjang<S: Shelf, O: Sink, E: Sink>(
     alloc: Global,
     words: &[String],
@@ -54,7 +57,7 @@ pub fn erjang<S: Shelf, O: Sink, E: Sink>(
         None => usage(err),
         Some(command) => {
             let outcome = compile(alloc, shelf, command);
-            report(alloc, err, command.file, outcome)
+            report(alloc, err, outcome)
         }
     }
 }

@@ -1,27 +1,27 @@
 //! What is said of an outcome, and its status.
 
 ghost use Rattle.std.specs.Prelude.{◌≡◌, ◌∷◌, [], ◌++◌, codes, IfOk, string_bytes};
-ghost use Rattle.erjang_top.specs.Answers.{Says, usage_line};
+ghost use Rattle.erjang_top.specs.Answers.{SameModule, Says, cause_text, usage_line};
 ghost use Rattle.erjang_top.specs.Sources.{fault_text};
-ghost use Rattle.erjang_top.specs.Work.{WritesAll, Reports};
+ghost use Rattle.erjang_top.specs.Work.{WritesAll, SaysRefusal, Reports, ReportsAt};
 
-use crate::fault::{Fault, SourceFault};
+use crate::fault::{Fault, SourceFault, Stopped};
 use ej_outside::{Failed, Sink};
 use std::alloc::{AllocError, Global};
 
-/// The class stands.
+/// The classes stand.
 const DONE: u8 = 0;
 
-/// The source is refused.
+/// A source is refused.
 const REFUSED: u8 = 1;
 
 /// The words are not those of a command.
 const USAGE: u8 = 2;
 
-/// The source could not be read.
+/// A source could not be read.
 const READ_FAULT: u8 = 3;
 
-/// A message was not taken whole, or the class was not put.
+/// A message was not taken whole, or a class was not put.
 const WRITE_FAULT: u8 = 4;
 
 /// Memory was wanting.
@@ -78,25 +78,45 @@ fn refusal(alloc: Global, fault: &SourceFault) -> Result<String, AllocError>
     format!(in alloc; ": {fault}\n")
 }
 
+/// What is said of a file whose module has the name of an earlier one's, with the newline.
+fn same_module(alloc: Global, earlier: usize) -> Result<String, AllocError>
+    ensures { IfOk result (λ said. string_bytes said ≡ cause_text (SameModule earlier) ++ 10 ∷ []) }
+{
+    format!(in alloc; ": same module as file {earlier}\n")
+}
+
+/// Says a line that took memory about a refused file.
+fn refuse<E: Sink>(err: &mut E, file: &str, said: Result<String, AllocError>) -> u8
+    ensures { SaysRefusal file.now said result (E.state err.old) (E.state err.new) }
+{
+    match said {
+        Ok(said) => say(err, REFUSED, file, said.as_str()),
+        Err(_) => NO_MEMORY,
+    }
+}
+
+/// Says what is wrong with a file, and answers the status.
+fn report_at<E: Sink>(alloc: Global, err: &mut E, file: &str, fault: Fault) -> u8
+    ensures { ReportsAt file.now fault result (E.state err.old) (E.state err.new) }
+{
+    match fault {
+        Fault::Absent => say(err, REFUSED, file, ": absent\n"),
+        Fault::Longer => say(err, REFUSED, file, ": longer than 67108864 bytes\n"),
+        Fault::ReadFailed => say(err, READ_FAULT, file, ": read failed\n"),
+        Fault::Refused(fault) => refuse(err, file, refusal(alloc, &fault)),
+        Fault::SameModule { earlier } => refuse(err, file, same_module(alloc, earlier)),
+        Fault::NoMemory => NO_MEMORY,
+    }
+}
+
 /// Says on `err` what is to be said of an outcome, and answers its status.
-pub(crate) fn report<E: Sink>(
-    alloc: Global,
-    err: &mut E,
-    file: &str,
-    outcome: Result<(), Fault>,
-) -> u8
-    ensures { Reports file.now outcome result (E.state err.old) (E.state err.new) }
+pub(crate) fn report<E: Sink>(alloc: Global, err: &mut E, outcome: Result<(), Stopped<'_>>) -> u8
+    ensures { Reports outcome.entry result (E.state err.old) (E.state err.new) }
 {
     match outcome {
         Ok(()) => DONE,
-        Err(Fault::Absent) => say(err, REFUSED, file, ": absent\n"),
-        Err(Fault::Longer) => say(err, REFUSED, file, ": longer than 67108864 bytes\n"),
-        Err(Fault::ReadFailed) => say(err, READ_FAULT, file, ": read failed\n"),
-        Err(Fault::Refused(fault)) => match refusal(alloc, &fault) {
-            Ok(said) => say(err, REFUSED, file, said.as_str()),
-            Err(_) => NO_MEMORY,
-        },
-        Err(Fault::PutFailed) => WRITE_FAULT,
-        Err(Fault::NoMemory) => NO_MEMORY,
+        Err(Stopped::At(file, fault)) => report_at(alloc, err, file, fault),
+        Err(Stopped::PutFailed) => WRITE_FAULT,
+        Err(Stopped::NoMemory) => NO_MEMORY,
     }
 }

@@ -1,11 +1,13 @@
 -- That a class runs as its module, whatever the script.
 use Rattle.std.specs.Prelude.{◌≡◌, ℕ, ◌<◌, ◌≤◌, Bool, false, ◌||◌, List, [], ◌∷◌, length, codes}
+use Rattle.std.specs.List.{AllZip}
 use Rattle.std.specs.Str.{bytes_eq}
 use Rattle.erjang_top.specs.first_path.World.{Choice, Start, Run}
 use Rattle.erjang_top.specs.first_path.Run.{run}
 use Rattle.beam_code.specs.declared.module.Module.{Module}
 use Rattle.erjang_top.specs.first_path.Turn.{beam}
 use Rattle.erjang_top.specs.first_path.ClassFile.{Class}
+use Rattle.erjang_top.specs.first_path.ClassProfile.{ClassOf}
 use Rattle.erjang_top.specs.first_path.ClassTurn.{jvm}
 
 -- the modules that have builtins, which neither machine knows so far
@@ -24,3 +26,8 @@ IsPlainScript (c ∷ cs) = IsPlainChoice c × IsPlainScript cs
 -- the class's run has the same events in the same order as the module's
 abbrev pub RunsAs : Module → Class → Type 0
 RunsAs m c = (script : List Choice) → IsPlainScript script → run (jvm (c ∷ [])) script ≡ run (beam (m ∷ [])) script
+
+-- the classes of the byte strings run together as the modules do, whatever the script
+abbrev pub TogetherAs : List Module → List (List ℕ) → Type 0
+TogetherAs ms bytes =
+    (cs : List Class) → AllZip ClassOf bytes cs → (script : List Choice) → IsPlainScript script → run (jvm cs) script ≡ run (beam ms) script
