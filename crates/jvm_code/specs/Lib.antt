@@ -15,5 +15,7 @@ pub mod ReadPool
 pub mod Reader
 pub mod Runtime
 pub mod RuntimeRows
+pub mod Same
+pub mod SameLaws
 pub mod Spelling
 pub mod Types

@@ -6,6 +6,7 @@
 
 mod class;
 mod constant;
+mod equality;
 mod laws;
 mod methods;
 mod modified_utf8;
