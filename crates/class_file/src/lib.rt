@@ -7,14 +7,19 @@
 mod fault;
 mod instructions;
 mod methods;
+mod numbers;
 mod operands;
 mod pool;
 mod reading;
 mod source;
+mod spelling;
+mod spelling_ops;
 mod switches;
 mod verdict;
 #[cfg(test)]
 mod witnesses;
+mod writing;
 
 pub use fault::ClassFault;
 pub use reading::parse;
+pub use writing::{WriteFault, write};
