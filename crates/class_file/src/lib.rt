@@ -18,6 +18,8 @@ mod switches;
 mod verdict;
 #[cfg(test)]
 mod witnesses;
+#[cfg(test)]
+mod write_tests;
 mod writing;
 
 pub use fault::ClassFault;
