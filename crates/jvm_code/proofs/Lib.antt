@@ -7,4 +7,5 @@ pub mod ToldClass
 pub mod ToldMethods
 pub mod ToldOps
 pub mod ToldPool
+pub mod UnitsLaw
 pub mod Utf8Test

@@ -19,3 +19,4 @@ pub mod Same
 pub mod SameLaws
 pub mod Spelling
 pub mod Types
+pub mod Units

@@ -1,9 +1,11 @@
 //! Laws of class files.
 
-ghost use Rattle.std.specs.Prelude.{◌≡◌, ℕ, List};
+ghost use Rattle.std.specs.Prelude.{◌≡◌, ℕ, List, true};
 ghost use Rattle.jvm_code.specs.declared.class.Class.{Class as ClassSeen};
+ghost use Rattle.jvm_code.specs.ModifiedUtf8.{is_modified_utf8};
 ghost use Rattle.jvm_code.specs.ReadClass.{ClassOf};
 ghost use Rattle.jvm_code.specs.Spelling.{class_bytes};
+ghost use Rattle.jvm_code.specs.Units.{AreUnits, UnitsOf, units_bytes};
 
 /// Bytes have at most one class, and a class has at most one byte string, which is how it is spelled.
 #[tactic(auto, using(crate::proofs::ClassLaw::spelled, crate::proofs::ClassLaw::one_class))]
@@ -11,4 +13,10 @@ pub fn bytes_and_classes()
     ensures spelled { (bytes : List ℕ) (class : ClassSeen) → ClassOf bytes class → bytes ≡ class_bytes class }
     ensures one_class { (bytes : List ℕ) (one other : ClassSeen) → ClassOf bytes one → ClassOf bytes other → one ≡ other }
     ensures one_string { (one other : List ℕ) (class : ClassSeen) → ClassOf one class → ClassOf other class → one ≡ other }
+{}
+
+/// Bytes are modified UTF-8 exactly where units of 16 bits are spelled so (JVMS SE 7, 4.4.7).
+pub fn modified_utf8_spells_units()
+    ensures spelled { (units : List ℕ) → AreUnits units → is_modified_utf8 (units_bytes units) ≡ true }
+    ensures told { (bytes : List ℕ) → is_modified_utf8 bytes ≡ true → UnitsOf bytes }
 {}
