@@ -1,4 +1,6 @@
 pub mod ClassLaw
+pub mod ClassNames
+pub mod MangleLaw
 pub mod Moves
 pub mod MovesOps
 pub mod SignedEq
@@ -8,4 +10,5 @@ pub mod ToldMethods
 pub mod ToldOps
 pub mod ToldPool
 pub mod UnitsLaw
+pub mod Utf8Bytes
 pub mod Utf8Test

@@ -6,6 +6,7 @@ pub mod ModifiedUtf8
 pub mod ModifiedUtf8Due
 pub mod NamePlaces
 pub mod Names
+pub mod NamesLaw
 pub mod OpcodeRows
 pub mod Opcodes
 pub mod Padding

@@ -1,8 +1,11 @@
 //! Laws of class files.
 
-ghost use Rattle.std.specs.Prelude.{◌≡◌, ℕ, List, true};
+ghost use Rattle.std.specs.Prelude.{◌≡◌, ◌<◌, ℕ, List, length, true};
+ghost use Rattle.std.specs.Str.{all_scalars};
 ghost use Rattle.jvm_code.specs.declared.class.Class.{Class as ClassSeen};
 ghost use Rattle.jvm_code.specs.ModifiedUtf8.{is_modified_utf8};
+ghost use Rattle.jvm_code.specs.Names.{class_name, is_class_name};
+ghost use Rattle.jvm_code.specs.NamesLaw.{ModuleOf};
 ghost use Rattle.jvm_code.specs.ReadClass.{ClassOf};
 ghost use Rattle.jvm_code.specs.Spelling.{class_bytes};
 ghost use Rattle.jvm_code.specs.Units.{AreUnits, UnitsOf, units_bytes};
@@ -19,4 +22,10 @@ pub fn bytes_and_classes()
 pub fn modified_utf8_spells_units()
     ensures spelled { (units : List ℕ) → AreUnits units → is_modified_utf8 (units_bytes units) ≡ true }
     ensures told { (bytes : List ℕ) → is_modified_utf8 bytes ≡ true → UnitsOf bytes }
+{}
+
+/// A text passes as the class of a module exactly where a module has it, whose name is not empty.
+pub fn class_names()
+    ensures spelled { (name : List ℕ) → all_scalars name ≡ true → 0 < length name → is_class_name (class_name name) ≡ true }
+    ensures told { (text : List ℕ) → is_class_name text ≡ true → ModuleOf text }
 {}
