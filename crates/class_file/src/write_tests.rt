@@ -7,7 +7,8 @@ use std::alloc::{AllocError, Global};
 use std::test::Fail;
 
 /// A class with one method, `iload_1; ireturn`.
-const SMALL: &[u8] = b"\xca\xfe\xba\xbe\0\0\0\x32\0\x08\x01\0\x07erl/m/a\x07\0\x01\x01\0\x10java/lang/Object\x07\0\x03\
+const SMALL: &[u8] =
+    b"\xca\xfe\xba\xbe\0\0\0\x32\0\x08\x01\0\x07erl/m/a\x07\0\x01\x01\0\x10java/lang/Object\x07\0\x03\
 \x01\0\x04f__0\x01\0\x0e(Lerl/Proc;I)I\x01\0\x04Code\0\x21\0\x02\0\x04\0\0\0\0\0\x01\0\x09\0\x05\0\x06\0\x01\0\x07\
 \0\0\0\x0e\0\x01\0\x02\0\0\0\x02\x1b\xac\0\0\0\0\0\0";
 
@@ -93,7 +94,10 @@ fn instructions_that_are_spelled_have_bytes(rt: HostRuntime) -> Result<(), Fail>
     assert_eq!(rt; fault_of(alloc, 0, Op::ALoad(Width::Byte, 255))?, None);
     assert_eq!(rt; fault_of(alloc, 0, Op::IfIcmp(164, -1))?, None);
     let one = offsets(alloc, 1)?;
-    assert_eq!(rt; fault_of(alloc, 0, Op::TableSwitch(0, i32::MAX, one))?, None);
+    assert_eq!(rt;
+        fault_of(alloc, 0, Op::TableSwitch(0, i32::MAX, one))?,
+        None
+    );
     let rising = pairs(alloc, -1, 1)?;
     assert_eq!(rt; fault_of(alloc, 0, Op::LookupSwitch(0, rising))?, None);
     Ok(())
@@ -112,7 +116,10 @@ fn instructions_that_none_is_have_no_bytes(rt: HostRuntime) -> Result<(), Fail> 
     let no = offsets(alloc, 0)?;
     assert_eq!(rt; fault_of(alloc, 0, Op::TableSwitch(0, 0, no))?, none);
     let two = offsets(alloc, 2)?;
-    assert_eq!(rt; fault_of(alloc, 0, Op::TableSwitch(0, i32::MAX, two))?, none);
+    assert_eq!(rt;
+        fault_of(alloc, 0, Op::TableSwitch(0, i32::MAX, two))?,
+        none
+    );
     let equal = pairs(alloc, 1, 1)?;
     assert_eq!(rt; fault_of(alloc, 0, Op::LookupSwitch(0, equal))?, none);
     Ok(())

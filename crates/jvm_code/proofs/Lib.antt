@@ -1,9 +1,11 @@
 pub mod ClassLaw
 pub mod ClassNames
 pub mod MangleLaw
+pub mod MethodNames
 pub mod Moves
 pub mod MovesOps
 pub mod SignedEq
+pub mod SmallNumbers
 pub mod Told
 pub mod ToldClass
 pub mod ToldMethods

@@ -80,7 +80,6 @@ unit_passes (suc k) rest l = go (nat_lt 0 (suc k) && nat_lt (suc k) 128) (nat_lt
         two_bytes (192 + suc k / 64) (128 + suc k % 64) rest (omega (arith, low)) (omega (arith, high)) (omega arith) (omega arith)
     go false false e f = high_passes (suc k) rest (from_2048 (suc k) f) l
 
-
 pub spelled : (units : List ℕ) → AreUnits units → is_modified_utf8 (units_bytes units) ≡ true
 spelled [] h = refl
 spelled (u ∷ us) h = unit_passes u (units_bytes us) h.0 ∙ spelled us h.1

@@ -14,7 +14,7 @@ encode_bytes c l = go (nat_lt c 128) (nat_lt c 2048) (nat_lt c 65536) refl refl 
   where
     go : (p q r : Bool) → nat_lt c 128 ≡ p → nat_lt c 2048 ≡ q → nat_lt c 65536 ≡ r
         → Bytes (cond p (c ∷ []) (cond q ((192 + c / 64) ∷ (128 + c % 64) ∷ []) (cond r ((224 + c / 4096) ∷ (128 + c / 64 % 64) ∷ (128 + c % 64) ∷ [])
-          ((240 + c / 262144) ∷ (128 + c / 4096 % 64) ∷ (128 + c / 64 % 64) ∷ (128 + c % 64) ∷ []))))
+        ((240 + c / 262144) ∷ (128 + c / 4096 % 64) ∷ (128 + c / 64 % 64) ∷ (128 + c % 64) ∷ []))))
     go true q r e f g = let h : c < 128 = grind (arith, nat_tests) in (omega (arith, h), tt)
     go false true r e f g = let h : c < 2048 = grind (arith, nat_tests) in (omega (arith, h), (omega arith, tt))
     go false false true e f g = let h : c < 65536 = grind (arith, nat_tests) in (omega (arith, h), (omega arith, (omega arith, tt)))

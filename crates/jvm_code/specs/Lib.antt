@@ -2,6 +2,7 @@ pub mod ConstantKey
 pub mod ConstantLaws
 pub mod Entries
 pub mod Fault
+pub mod MethodNames
 pub mod ModifiedUtf8
 pub mod ModifiedUtf8Due
 pub mod NamePlaces

@@ -111,9 +111,9 @@ pub op_tells : (one other : Op) → Decides (same_op one other) (one ≡ other)
 op_tells one other =
     tells one other _
     (Decides-and _ _ (Decides-and _ _ (numbers_tell (numbers one) (numbers other)) (slice_eq-Decides Decides-int_eq (offsets one) (offsets other) _ refl))
-        (slice_eq-Decides pair_tells (pairs one) (pairs other) _ refl))
+    (slice_eq-Decides pair_tells (pairs one) (pairs other) _ refl))
     (λ p. sym (back one) ∙ ap (λ n. of_parts n (offsets one) (pairs one)) p.0.0 ∙ ap (λ t. of_parts (numbers other) t (pairs one)) p.0.1
-        ∙ ap (λ t. of_parts (numbers other) (offsets other) t) p.1 ∙ back other)
+    ∙ ap (λ t. of_parts (numbers other) (offsets other) t) p.1 ∙ back other)
     (λ e. ((ap numbers e, ap offsets e), ap pairs e))
 
 placed_tells : (x y : ℕ × Op) → Decides (same_placed x y) (x ≡ y)
@@ -132,9 +132,9 @@ pub method_tells : (one other : Method) → Decides (same_method one other) (one
 method_tells one other =
     tells one other _
     (Decides-and _ _ (Decides-and _ _
-        (Decides-and _ _ (Decides-and _ _ (Decides-and _ _ (Decides-and _ _ (Decides-and _ _ (Decides-eqb one.flags other.flags) (Decides-eqb one.name other.name))
-        (Decides-eqb one.descriptor other.descriptor)) (Decides-eqb one.code_name other.code_name)) (Decides-eqb one.max_stack other.max_stack)) (Decides-eqb one.max_locals other.max_locals))
-        (slice_eq-Decides placed_tells one.code other.code _ refl)) (maps_tell one.maps other.maps))
+    (Decides-and _ _ (Decides-and _ _ (Decides-and _ _ (Decides-and _ _ (Decides-and _ _ (Decides-eqb one.flags other.flags) (Decides-eqb one.name other.name))
+    (Decides-eqb one.descriptor other.descriptor)) (Decides-eqb one.code_name other.code_name)) (Decides-eqb one.max_stack other.max_stack)) (Decides-eqb one.max_locals other.max_locals))
+    (slice_eq-Decides placed_tells one.code other.code _ refl)) (maps_tell one.maps other.maps))
     (λ p i. record {
       flags = p.0.0.0.0.0.0.0 i;
       name = p.0.0.0.0.0.0.1 i;
@@ -154,7 +154,7 @@ pub class_tells : (one other : Class) → Decides (same_class one other) (one �
 class_tells one other =
     tells one other _
     (Decides-and _ _ (Decides-and _ _ (Decides-and _ _ (Decides-and _ _ (Decides-eqb one.flags other.flags) (slice_eq-Decides constant_tells one.pool other.pool _ refl))
-        (Decides-eqb one.this other.this)) (Decides-eqb one.above other.above)) (slice_eq-Decides method_tells one.methods other.methods _ refl))
+    (Decides-eqb one.this other.this)) (Decides-eqb one.above other.above)) (slice_eq-Decides method_tells one.methods other.methods _ refl))
     (λ p i. record { flags = p.0.0.0.0 i; pool = p.0.0.0.1 i; this = p.0.0.1 i; above = p.0.1 i; methods = p.1 i })
     (λ e. ((((ap (λ c. c.flags) e, ap (λ c. c.pool) e), ap (λ c. c.this) e), ap (λ c. c.above) e), ap (λ c. c.methods) e))
 

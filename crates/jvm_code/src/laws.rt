@@ -3,8 +3,9 @@
 ghost use Rattle.std.specs.Prelude.{◌≡◌, ◌<◌, ℕ, List, length, true};
 ghost use Rattle.std.specs.Str.{all_scalars};
 ghost use Rattle.jvm_code.specs.declared.class.Class.{Class as ClassSeen};
+ghost use Rattle.jvm_code.specs.MethodNames.{FunctionOf};
 ghost use Rattle.jvm_code.specs.ModifiedUtf8.{is_modified_utf8};
-ghost use Rattle.jvm_code.specs.Names.{class_name, is_class_name};
+ghost use Rattle.jvm_code.specs.Names.{class_name, is_class_name, method_name, names_function};
 ghost use Rattle.jvm_code.specs.NamesLaw.{ModuleOf};
 ghost use Rattle.jvm_code.specs.ReadClass.{ClassOf};
 ghost use Rattle.jvm_code.specs.Spelling.{class_bytes};
@@ -28,4 +29,10 @@ pub fn modified_utf8_spells_units()
 pub fn class_names()
     ensures spelled { (name : List ℕ) → all_scalars name ≡ true → 0 < length name → is_class_name (class_name name) ≡ true }
     ensures told { (text : List ℕ) → is_class_name text ≡ true → ModuleOf text }
+{}
+
+/// A text passes as the method of a function exactly where one has it, of an arity of at most 255.
+pub fn function_names()
+    ensures spelled { (name : List ℕ) → (arity : ℕ) → all_scalars name ≡ true → arity < 256 → names_function (method_name name arity) ≡ true }
+    ensures told { (text : List ℕ) → names_function text ≡ true → FunctionOf text }
 {}
