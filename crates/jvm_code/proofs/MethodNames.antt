@@ -1,15 +1,15 @@
--- A text that passes as the method of a function is one's.
-use Rattle.std.proofs.Common.{◌≡◌, ℕ, zero, suc, ◌+◌, ◌-◌, ◌<◌, ◌≤◌, nat_lt, Bool, true, false, ◌&&◌, cond, List, [], ◌∷◌, ◌++◌, length, take, drop, codes, Option, None, Some, option_map, decimal, refl, sym, ap, ◌∙◌, subst, append_assoc, length-append, arith}
+-- A text passes as the name of a method exactly where a function or a part of one has it.
+use Rattle.std.proofs.Common.{◌≡◌, ℕ, zero, suc, ◌+◌, ◌-◌, ◌<◌, ◌≤◌, nat_lt, Bool, true, false, ◌&&◌, ◌||◌, nat_eq, cond, List, [], ◌∷◌, ◌++◌, length, take, drop, codes, Option, None, Some, option_map, decimal, refl, sym, ap, ◌∙◌, subst, append_assoc, length-append, inl, inr, arith}
 use Rattle.std.proofs.lemmas.Bool.{and_parts, ltb-true}
 use Rattle.std.proofs.lemmas.Bool.Decides.{nat_tests}
 use Rattle.std.proofs.lemmas.List.{take-append-drop}
 use Rattle.std.proofs.lemmas.Slice.Eq.{bytes_eq-Decides}
 use Rattle.std.proofs.Math.Seq.{take-append_seam, drop-append_seam}
 use Rattle.std.specs.Str.{bytes_eq, all_scalars}
-use Rattle.jvm_code.specs.Names.{is_digit, mangle, method_name, behind_last, digits_at, small_number, numbered, is_mangled, is_function, names_function}
-use Rattle.jvm_code.specs.MethodNames.{FunctionOf}
+use Rattle.jvm_code.specs.Names.{is_digit, mangle, method_name, behind_last, digits_at, small_number, numbered, is_mangled, is_function, names_function, is_part, names_part, is_method_name}
+use Rattle.jvm_code.specs.MethodNames.{FunctionOf, PartOf, MethodOf, part_name}
 use Rattle.jvm_code.proofs.ClassNames.{name_told, name_spelled}
-use Rattle.jvm_code.proofs.SmallNumbers.{AllDigits, small_told, small_spelled}
+use Rattle.jvm_code.proofs.SmallNumbers.{AllDigits, small_told, small_below, small_spelled}
 
 -- the place is behind what was found before
 kept : (at found : ℕ) (bs : List ℕ) → found ≤ at → found ≤ behind_last at found bs
@@ -89,6 +89,7 @@ second (Some x) = x.1
 
 pub record Numbered (mark text name : List ℕ) (n : ℕ) : Type 0 where
   pub is : text ≡ name ++ (mark ++ decimal n)
+  pub below : n < 1000
 
 -- a text that is split at a place behind which there are digits
 split_told : (p : ℕ) (mark text name : List ℕ) (n : ℕ) → AllDigits (drop p text) → drop (p - 2) (take p text) ≡ mark → (o : Option ℕ) → small_number (drop p text) ≡ o
@@ -102,6 +103,7 @@ split_told p mark text name n digits m (Some k) s e =
           ∙ ap (λ t. t ++ decimal n) (sym (take-append-drop (p - 2) (take p text)) ∙ ap (λ m. take (p - 2) (take p text) ++ m) m
             ∙ ap (λ t. t ++ mark) (take_less (p - 2) p text (omega arith) ∙ same_name))
           ∙ append_assoc name mark (decimal n);
+      below = subst (λ k. k < 1000) same_number (small_below (drop p text) k digits s);
     }
 
 place_told : (p : ℕ) (mark text name : List ℕ) (n : ℕ) → AllDigits (drop p text) → (c d : Bool) → bytes_eq (drop (p - 2) (take p text)) mark ≡ d
@@ -179,3 +181,41 @@ pub function_spelled : (name : List ℕ) (arity : ℕ) → all_scalars name ≡ 
 function_spelled name arity s l =
     ap names_function (append_assoc (mangle name) (codes "__") (decimal arity)) ∙ ap is_function (numbered_spelled (mangle name) 95 95 arity refl (omega (arith, l)))
     ∙ ap (λ b. b && is_mangled (mangle name)) (below_256 arity l) ∙ name_spelled name s
+
+part_told : (text : List ℕ) → names_part text ≡ true → PartOf text
+part_told text e = go (numbered (codes "$p") text) refl e
+  where
+    go : (o : Option Split) → numbered (codes "$p") text ≡ o → is_part o ≡ true → PartOf text
+    go None n e = absurd cc
+    go (Some s) n e =
+        let p = and_parts _ _ e in
+        let t = numbered_told (codes "$p") text s.0 s.1 n in
+        record { function = s.0; of = function_told s.0 p.1; number = s.1; above = ltb-true 0 s.1 p.0; below = t.below; is = t.is }
+
+is_it : (n b : ℕ) → nat_eq b n ≡ true → b ≡ n
+is_it n b e = grind (arith, nat_tests)
+
+pub method_told : (flags : ℕ) (text : List ℕ) → is_method_name flags text ≡ true → MethodOf flags text
+method_told flags text e = go (names_function text) refl e
+  where
+    go : (c : Bool) → names_function text ≡ c → (c || (nat_eq flags 0x000A && names_part text)) ≡ true → MethodOf flags text
+    go true f e = inl (function_told text f)
+    go false f e = let p = and_parts _ _ e in inr (is_it 0x000A flags p.0, part_told text p.1)
+
+or_true : (a b : Bool) → a ≡ true → (a || b) ≡ true
+or_true a b e = ap (λ c. c || b) e
+
+pub function_passes : (flags : ℕ) (name : List ℕ) (arity : ℕ) → all_scalars name ≡ true → arity < 256 → is_method_name flags (method_name name arity) ≡ true
+function_passes flags name arity s l = or_true (names_function (method_name name arity)) (nat_eq flags 0x000A && names_part (method_name name arity)) (function_spelled name arity s l)
+
+positive : (n : ℕ) → 0 < n → nat_lt 0 n ≡ true
+positive n l = grind (arith, nat_tests)
+
+or_second : (a b : Bool) → b ≡ true → (a || b) ≡ true
+or_second true b e = refl
+or_second false b e = e
+
+pub part_passes : (function : List ℕ) (number : ℕ) → names_function function ≡ true → 0 < number → number < 1000 → is_method_name 0x000A (part_name function number) ≡ true
+part_passes function number f l h =
+    or_second (names_function (part_name function number)) (names_part (part_name function number))
+    (ap is_part (numbered_spelled function 36 112 number refl h) ∙ ap (λ b. b && names_function function) (positive number l) ∙ f)

@@ -111,6 +111,9 @@ short_told (a ∷ b ∷ c ∷ x ∷ ds) n d e = absurd cc
 pub small_told : (ds : List ℕ) (n : ℕ) → AllDigits ds → small_number ds ≡ Some n → ds ≡ decimal n
 small_told ds n d e = let s = short_told ds n d e in s.is ∙ sym (decimal_short n s.short)
 
+pub small_below : (ds : List ℕ) (n : ℕ) → AllDigits ds → small_number ds ≡ Some n → n < 1000
+small_below ds n d e = (short_told ds n d e).short
+
 -- ---- the decimal text of a number is read as it
 
 digit_of : (d b : ℕ) → d < 10 → b ≡ 48 + d → is_digit b ≡ true

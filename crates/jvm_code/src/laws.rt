@@ -3,9 +3,9 @@
 ghost use Rattle.std.specs.Prelude.{◌≡◌, ◌<◌, ℕ, List, length, true};
 ghost use Rattle.std.specs.Str.{all_scalars};
 ghost use Rattle.jvm_code.specs.declared.class.Class.{Class as ClassSeen};
-ghost use Rattle.jvm_code.specs.MethodNames.{FunctionOf};
+ghost use Rattle.jvm_code.specs.MethodNames.{MethodOf, part_name};
 ghost use Rattle.jvm_code.specs.ModifiedUtf8.{is_modified_utf8};
-ghost use Rattle.jvm_code.specs.Names.{class_name, is_class_name, method_name, names_function};
+ghost use Rattle.jvm_code.specs.Names.{class_name, is_class_name, is_method_name, method_name, names_function};
 ghost use Rattle.jvm_code.specs.NamesLaw.{ModuleOf};
 ghost use Rattle.jvm_code.specs.ReadClass.{ClassOf};
 ghost use Rattle.jvm_code.specs.Spelling.{class_bytes};
@@ -31,8 +31,10 @@ pub fn class_names()
     ensures told { (text : List ℕ) → is_class_name text ≡ true → ModuleOf text }
 {}
 
-/// A text passes as the method of a function exactly where one has it, of an arity of at most 255.
-pub fn function_names()
-    ensures spelled { (name : List ℕ) → (arity : ℕ) → all_scalars name ≡ true → arity < 256 → names_function (method_name name arity) ≡ true }
-    ensures told { (text : List ℕ) → names_function text ≡ true → FunctionOf text }
+/// A text passes as the name of a method exactly where a function has it, of an arity of at most 255, or, where the method
+/// is private, a part of a function.
+pub fn method_names()
+    ensures function { (flags : ℕ) → (name : List ℕ) → (arity : ℕ) → all_scalars name ≡ true → arity < 256 → is_method_name flags (method_name name arity) ≡ true }
+    ensures part { (function : List ℕ) → (number : ℕ) → names_function function ≡ true → 0 < number → number < 1000 → is_method_name 0x000A (part_name function number) ≡ true }
+    ensures told { (flags : ℕ) → (text : List ℕ) → is_method_name flags text ≡ true → MethodOf flags text }
 {}
