@@ -1,11 +1,11 @@
 -- How the loop over the entries of a pool goes on.
-use Rattle.std.proofs.Common.{◌≡◌, ℕ, zero, suc, ◌+◌, ◌-◌, ◌<◌, Bool, List, [], ◌∷◌, ◌++◌, Result, Ok, Err, refl, sym, ap, ◌∙◌, append_assoc, append-nil, arith}
+use Rattle.std.proofs.Common.{◌≡◌, ℕ, suc, ◌+◌, ◌-◌, ◌<◌, Bool, List, [], ◌∷◌, ◌++◌, Ok, Err, refl, sym, ap, ◌∙◌, append_assoc, append-nil, arith}
 use Rattle.jvm_code.specs.declared.class.Constant.{Constant}
 use Rattle.jvm_code.specs.Fault.{Fault}
 use Rattle.std.specs.List.{sum_by}
 use Rattle.std.proofs.lemmas.List.Sums.{sum_by_push}
 use Rattle.jvm_code.specs.ReadPool.{next_entry, entries, is_long, entry_size}
-use Rattle.jvm_code.specs.Reader.{Got, done, go_on, then_read, read_as}
+use Rattle.jvm_code.specs.Reader.{Got, done, go_on, read_as}
 use Rattle.class_file.specs.declared.fault.ClassFault.{ClassFault}
 use Rattle.class_file.specs.declared.fault.ClassFault.TheVariants.{NotClass, OutsideProfile, NoMemory}
 use Rattle.class_file.specs.Gave.{Failed}

@@ -1,7 +1,11 @@
+pub mod BytesWritten
 pub mod ClassRead
 pub mod EntriesRead
+pub mod HighValue
+pub mod LowBytes
 pub mod MethodsRead
 pub mod NameSets
 pub mod OpsRead
 pub mod PaddingRead
+pub mod Pushed
 pub mod TimesRead

@@ -1,10 +1,10 @@
 -- How the loop over instructions goes on.
-use Rattle.std.proofs.Common.{◌≡◌, ℕ, zero, suc, ◌+◌, ◌-◌, ◌<◌, ◌≤◌, List, [], ◌∷◌, ◌++◌, length, Result, Ok, Err, refl, sym, ap, ◌∙◌, subst, append_assoc, append-nil, arith}
+use Rattle.std.proofs.Common.{◌≡◌, ℕ, suc, ◌+◌, ◌-◌, ◌<◌, ◌≤◌, List, [], ◌∷◌, ◌++◌, length, Result, Ok, Err, refl, sym, ap, ◌∙◌, subst, append_assoc, append-nil, arith}
 use Rattle.jvm_code.specs.declared.class.Constant.{Constant}
 use Rattle.jvm_code.specs.declared.class.Op.{Op}
 use Rattle.jvm_code.specs.Fault.{Fault}
 use Rattle.jvm_code.specs.Fault as spec
-use Rattle.jvm_code.specs.Reader.{Got, fault_at}
+use Rattle.jvm_code.specs.Reader.{fault_at}
 use Rattle.jvm_code.specs.ReadOps.{op, ops, and_more, onto}
 use Rattle.jvm_code.proofs.MovesOps.{moves_op}
 use Rattle.class_file.specs.declared.fault.ClassFault.{ClassFault}

@@ -1,5 +1,5 @@
 -- How the loop over padding goes on.
-use Rattle.std.proofs.Common.{◌≡◌, ℕ, zero, suc, ◌+◌, ◌-◌, ◌<◌, List, Result, Ok, Err, refl, sym, ap, ◌∙◌, arith}
+use Rattle.std.proofs.Common.{◌≡◌, ℕ, suc, ◌-◌, ◌<◌, List, Ok, Err, sym, ap, ◌∙◌, arith}
 use Rattle.jvm_code.specs.Fault.{Fault}
 use Rattle.jvm_code.specs.Reader.{Got, go_on, pad_byte, padding}
 use Rattle.class_file.specs.declared.fault.ClassFault.{ClassFault}

@@ -1,5 +1,5 @@
 -- How a loop over a count of the same goes on.
-use Rattle.std.proofs.Common.{◌≡◌, ℕ, zero, suc, ◌+◌, ◌-◌, ◌<◌, List, [], ◌∷◌, ◌++◌, Result, Ok, Err, refl, sym, ap, ◌∙◌, append-nil, arith}
+use Rattle.std.proofs.Common.{◌≡◌, ℕ, suc, ◌-◌, ◌<◌, List, [], ◌∷◌, ◌++◌, Ok, Err, sym, ap, ◌∙◌, append-nil, arith}
 use Rattle.jvm_code.specs.Fault.{Fault}
 use Rattle.jvm_code.specs.Reader.{Got, Reader, done, go_on, then_read, times}
 use Rattle.class_file.proofs.EntriesRead.{onto, onto_cons}

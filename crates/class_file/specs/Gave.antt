@@ -1,5 +1,5 @@
 -- What a call owes to the reader that it is the code of.
-use Rattle.std.specs.Prelude.{◌≡◌, ℕ, List, Result, Ok, Err}
+use Rattle.std.specs.Prelude.{◌≡◌, Result, Ok, Err}
 use Rattle.jvm_code.specs.Fault.{Fault}
 use Rattle.jvm_code.specs.Fault as spec
 use Rattle.jvm_code.specs.Reader.{Got}

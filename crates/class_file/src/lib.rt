@@ -7,12 +7,17 @@
 mod fault;
 mod instructions;
 mod methods;
+mod numbers;
 mod operands;
 mod pool;
 mod reading;
 mod source;
+mod spelling;
+mod spelling_ops;
 mod switches;
 mod verdict;
+mod writing;
 
 pub use fault::ClassFault;
 pub use reading::parse;
+pub use writing::{WriteFault, write};

@@ -11,3 +11,5 @@ mod pools;
 mod rows;
 #[cfg(test)]
 mod tables;
+#[cfg(test)]
+mod written;

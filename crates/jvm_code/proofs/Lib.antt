@@ -1,10 +1,16 @@
 pub mod ClassLaw
+pub mod ClassNames
+pub mod MangleLaw
+pub mod MethodNames
 pub mod Moves
 pub mod MovesOps
 pub mod SignedEq
+pub mod SmallNumbers
 pub mod Told
 pub mod ToldClass
 pub mod ToldMethods
 pub mod ToldOps
 pub mod ToldPool
+pub mod UnitsLaw
+pub mod Utf8Bytes
 pub mod Utf8Test

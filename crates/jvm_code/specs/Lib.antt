@@ -2,10 +2,12 @@ pub mod ConstantKey
 pub mod ConstantLaws
 pub mod Entries
 pub mod Fault
+pub mod MethodNames
 pub mod ModifiedUtf8
 pub mod ModifiedUtf8Due
 pub mod NamePlaces
 pub mod Names
+pub mod NamesLaw
 pub mod OpcodeRows
 pub mod Opcodes
 pub mod Padding
@@ -15,5 +17,8 @@ pub mod ReadPool
 pub mod Reader
 pub mod Runtime
 pub mod RuntimeRows
+pub mod Same
+pub mod SameLaws
 pub mod Spelling
 pub mod Types
+pub mod Units

@@ -6,6 +6,7 @@
 
 mod class;
 mod constant;
+mod equality;
 mod laws;
 mod methods;
 mod modified_utf8;
@@ -14,7 +15,7 @@ mod opcodes;
 mod types;
 
 pub use class::{Class, Constant, Method, Op, Width};
-pub use laws::bytes_and_classes;
+pub use laws::{bytes_and_classes, class_names, method_names, modified_utf8_spells_units};
 pub use methods::{RuntimeRow, runtime, runtime_row};
 pub use modified_utf8::is_modified_utf8;
 pub use names::{is_class_name, is_method_name, mangle};
