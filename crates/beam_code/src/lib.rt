@@ -6,6 +6,7 @@
 //! which operands fit a row, what each row stands for, and which label rules a module keeps.
 #![tactic(auto)]
 
+mod constants;
 mod decode;
 mod fault;
 mod fits;
@@ -22,6 +23,7 @@ mod slot_state;
 mod steps;
 mod worked;
 
+pub use constants::{External, MoreSources, Numbers, Sources, external_of, numbers_of, sources_of};
 pub use fault::StepFault;
 pub use flow::{Branches, branches_of, builtin_called, holds, may_raise};
 pub use foreign::holds_foreign;
