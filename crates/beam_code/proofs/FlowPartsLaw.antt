@@ -1,14 +1,13 @@
 -- The steps of the code come to where control goes.
-use Rattle.std.proofs.Common.{◌≡◌, ℕ, zero, suc, ◌+◌, Bool, true, false, nat_eq, ◌&&◌, ◌||◌, cond, List, [], ◌∷◌, map, Option, None, Some, refl, sym, ap, ◌∙◌}
-use Rattle.std.specs.Prelude.{nat_le, if◌then◌else◌, is_some, is_none, option_map, option_and_then}
-use Rattle.std.specs.List.{list_all}
+use Rattle.std.proofs.Common.{◌≡◌, ℕ, Bool, true, false, nat_eq, ◌&&◌, ◌||◌, List, [], ◌∷◌, map, Option, None, Some, refl, ap, ◌∙◌}
+use Rattle.std.specs.Prelude.{nat_le, if◌then◌else◌, is_some, option_and_then}
 use Rattle.beam_code.specs.declared.kind.Kind.{Kind}
 use Rattle.beam_code.specs.declared.kind.Kind.TheVariants as k
 use Rattle.beam_code.specs.declared.operand.Reg.{Reg}
 use Rattle.beam_code.specs.declared.operand.Reg.TheVariants.{X, Y}
 use Rattle.beam_code.specs.declared.operand.TheConstants.{LAST_REGISTER}
-use Rattle.beam_code.specs.Flow.{Flow, flow, is_moved, kind_in, kind_of, holds, reads, reads_all, reads_pairs, writes, writes_terms, live, live_if, on, going, raising, failing, when, onward, plain, comes_back, leaves, after_call, all_ways, raised_from, are_terms, read_by, builtin_called}
-use Rattle.beam_code.specs.FlowParts.{has, has_all, allows, entered, left, parts}
+use Rattle.beam_code.specs.Flow.{Flow, flow, is_moved, kind_in, kind_of, holds, reads, reads_all, reads_pairs, writes, writes_terms, live_if, on, going, raising, failing, when, onward, plain, comes_back, leaves, after_call, all_ways, raised_from, are_terms, read_by, builtin_called}
+use Rattle.beam_code.specs.FlowParts.{has, has_all, allows, parts}
 use Rattle.beam_code.specs.Labels.{failure}
 use Rattle.beam_code.specs.Opcode as o
 use Rattle.beam_code.specs.Opcode.{Opcode, Callee}

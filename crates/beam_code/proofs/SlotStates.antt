@@ -1,6 +1,6 @@
 -- What a state's lists of kinds stand for.
-use Rattle.std.proofs.Common.{◌≡◌, ℕ, zero, suc, ◌+◌, ◌-◌, ◌<◌, ◌≤◌, List, [], ◌∷◌, ◌++◌, length, get_or, drop, replicate, take, refl, sym, ap, subst, ◌∙◌, arith, append_assoc, length-append, length-drop, length-take}
-use Rattle.std.specs.Prelude.{nat_eq, nat_lt, nat_le, not, ◌&&◌, slice_set, Bool, true, false, if◌then◌else◌, Option, None, Some, slice_get, unwrap_or, Result, Ok, Err, OnOk, OnErr}
+use Rattle.std.proofs.Common.{◌≡◌, ℕ, zero, suc, ◌+◌, ◌-◌, ◌<◌, ◌≤◌, List, [], ◌∷◌, ◌++◌, length, get_or, drop, replicate, take, refl, sym, ap, subst, ◌∙◌, arith, length-append, length-drop}
+use Rattle.std.specs.Prelude.{nat_eq, nat_lt, nat_le, ◌&&◌, slice_set, Bool, true, false, if◌then◌else◌, Option, None, Some, slice_get, unwrap_or, Result, Ok, Err, OnOk, OnErr}
 use Rattle.std.specs.Cmp.{nat_eq_equiv}
 use Rattle.std.specs.List.{list_all, remove}
 use Rattle.std.proofs.lemmas.Bool.Decides.{nat_tests}
@@ -13,11 +13,11 @@ use Rattle.beam_code.specs.declared.kind.Kind.TheVariants as k
 use Rattle.beam_code.specs.declared.operand.Reg.{Reg}
 use Rattle.beam_code.specs.declared.operand.Reg.TheVariants.{X, Y}
 use Rattle.beam_code.specs.declared.slot_state.SlotState.{SlotState}
-use Rattle.beam_code.specs.Flow.{kind_in, handlers, lowest_tag, is_term, are_terms, is_frame, writes, live, framed, trimmed}
+use Rattle.beam_code.specs.Flow.{kind_in, handlers, lowest_tag, is_term, are_terms, is_frame, writes}
 use Rattle.beam_code.specs.FlowParts.{has}
 use Rattle.beam_code.specs.Kinds.{IsFront, first_tag, put_at}
 use Rattle.beam_code.specs.SlotForm.{is_undefined, ends_undefined, is_kind, is_size}
-use Rattle.beam_code.specs.Slots.{State, listed, state_of, size, has_slot, changed, with_x, with_y, nothing, arguments, entry_state}
+use Rattle.beam_code.specs.Slots.{State, listed, state_of, size, has_slot, changed, with_x, with_y, nothing, arguments}
 use Rattle.beam_code.proofs.KindLists.{behind-last, first-tag-lowest, frame-size, past-end}
 
 pub handlers-of : (s : SlotState) → first_tag s.ys ≡ handlers (state_of s)
@@ -304,6 +304,13 @@ undefined-fits ys n e = ap (is_size (Some n)) (ap length e ∙ length-replicate 
 frame-is : (frame : Option ℕ) (n m : ℕ) → is_frame frame n ≡ true → is_size frame m ≡ true → n ≡ m
 frame-is None n m h i = absurd (true≢false (sym h))
 frame-is (Some size) n m h i = grind (arith, nat_tests)
+
+-- what is left of a frame where the first slots go
+pub slots-left : (frame : Option ℕ) (size n m : ℕ) → frame ≡ Some size → is_frame frame (n + m) ≡ true → size - n ≡ m
+slots-left frame size n m e h = left size (ap (λ f. is_frame f (n + m)) (sym e) ∙ h)
+  where
+    left : (size : ℕ) → nat_eq size (n + m) ≡ true → size - n ≡ m
+    left size i = grind (arith, nat_tests)
 
 module _ (s : SlotState) (n m : ℕ) (ys : List Kind) (h : is_frame s.frame (n + m) ≡ true) where
   pub slots-there : n ≤ length s.ys

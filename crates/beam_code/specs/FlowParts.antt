@@ -1,17 +1,15 @@
 -- Where control goes from an instruction, in the steps in which the code finds it: whether the row holds, the state in
 -- which the instruction goes to its labels and raises, these labels, and the state in which it falls through.
-use Rattle.std.specs.Prelude.{◌≡◌, ℕ, ◌+◌, Bool, true, false, nat_eq, nat_le, ◌&&◌, ◌||◌, if◌then◌else◌, List, [], ◌∷◌, map, Option, None, Some, is_some, is_none, option_map, option_and_then}
+use Rattle.std.specs.Prelude.{◌≡◌, ℕ, ◌+◌, Bool, true, false, nat_le, ◌&&◌, ◌||◌, if◌then◌else◌, List, [], ◌∷◌, map, Option, None, Some, is_some, is_none, option_and_then}
 use Rattle.std.specs.List.{list_all}
-use Rattle.beam_code.specs.declared.kind.Kind.{Kind}
 use Rattle.beam_code.specs.declared.kind.Kind.TheVariants as k
 use Rattle.beam_code.specs.declared.operand.Reg.{Reg}
 use Rattle.beam_code.specs.declared.operand.Reg.TheVariants.{X, Y}
-use Rattle.beam_code.specs.declared.operand.Src.{Src}
 use Rattle.beam_code.specs.declared.operand.TheConstants.{LAST_REGISTER}
 use Rattle.beam_code.specs.declared.slot_state.TheConstants.{MOST_SLOTS}
 use Rattle.beam_code.specs.Flow.{Flow, flow, is_term, is_optional, is_trace, is_marker, is_moved, kind_in, kind_of, holds, reads, reads_all, reads_pairs, are_terms, is_frame, writes, writes_terms, live, live_if, after_call, cleared, framed, unframed, trimmed, all_ways, raised_from, read_by, builtin_called, comes_back, has_tag, exception}
 use Rattle.beam_code.specs.Labels.{failure}
-use Rattle.beam_code.specs.Opcode.{Opcode, Callee, CallKind, Body, Only, Last, Marking, Reserve, Bind, Use, Clear, Label, Line, Comment, FuncInfo, Move, Swap, Allocate, TestHeap, Deallocate, Trim, InitYregs, Call, Return, MakeFun2, MakeFun3, Send, Bif, PutList, PutTuple2, GetList, Get, SetTupleElement, PutMap, GetMapElements, Jump, SelectVal, SelectTupleArity, Test, TestArity, IsTaggedTuple, HasMapFields, LoopRec, RemoveMessage, Timeout, LoopRecEnd, Wait, WaitTimeout, RecvMarker, Try, TryEnd, TryCase, CatchEnd, Unmatches, IfEnd, Raise, RawRaise, BuildStacktrace}
+use Rattle.beam_code.specs.Opcode.{Opcode, Callee, CallKind, Body, Only, Last, Marking, Reserve, Bind, Use, Clear, FuncInfo, Move, Swap, Allocate, TestHeap, Deallocate, Trim, InitYregs, Call, Return, MakeFun2, MakeFun3, Send, Bif, PutList, PutTuple2, GetList, Get, SetTupleElement, PutMap, GetMapElements, Jump, SelectVal, SelectTupleArity, Test, TestArity, IsTaggedTuple, HasMapFields, LoopRec, LoopRecEnd, Wait, WaitTimeout, RecvMarker, Try, TryEnd, TryCase, CatchEnd, Unmatches, IfEnd, Raise, RawRaise, BuildStacktrace}
 use Rattle.beam_code.specs.Slots.{State, has_slot, with_x, with_y, with_xs}
 use Rattle.beam_code.specs.Weights.{may_raise}
 
@@ -148,6 +146,17 @@ left (Raise trace reason) s = None
 left RawRaise s = Some (with_x 0 k.Term s)
 left BuildStacktrace s = Some (with_x 0 k.Term s)
 left _ s = Some s
+
+-- the state of an instruction whose row held before it, in which it goes to its labels
+pub record IsEntered (o : Opcode) (t : State) : Type 0 where
+  pub before : State
+  pub allowed : allows o before ≡ true
+  pub is : t ≡ entered o before
+
+-- the state in which it falls through, if it does
+abbrev pub falls_as : Bool → State → Option State
+falls_as true s = Some s
+falls_as false s = None
 
 -- the whole, where the row holds
 abbrev pub parts : Opcode → State → Flow

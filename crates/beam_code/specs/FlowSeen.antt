@@ -1,5 +1,5 @@
 -- What the code's branches stand for.
-use Rattle.std.specs.Prelude.{ℕ, List, [], ◌∷◌, map, Option, None, Some}
+use Rattle.std.specs.Prelude.{ℕ, List, ◌∷◌, map, Option, None, Some}
 use Rattle.beam_code.specs.declared.flow.Branches.{Branches}
 
 abbrev pub with_first : Option ℕ → List ℕ → List ℕ

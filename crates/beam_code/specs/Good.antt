@@ -1,14 +1,25 @@
 -- Assignments of slot states to the labels of a function: which are good, and the most defined of them.
-use Rattle.std.specs.Prelude.{◌≡◌, ℕ, true, List, [], ◌∷◌, Option, None, Some, option_and_then}
+use Rattle.std.specs.Prelude.{◌≡◌, ℕ, true, nat_eq, if◌then◌else◌, List, [], ◌∷◌, Option, None, Some, option_map, option_and_then}
+use Rattle.beam_code.specs.declared.slot_state.SlotMap.{SlotMap}
+use Rattle.beam_code.specs.declared.slot_state.SlotState.{SlotState}
 use Rattle.beam_code.specs.Code.{FunctionCode}
 use Rattle.beam_code.specs.Flow.{Way, Flow, flow}
 use Rattle.beam_code.specs.Labels.{is_in, defined_in}
 use Rattle.beam_code.specs.Opcode.{Opcode, Label}
-use Rattle.beam_code.specs.Slots.{State, BelowIfReached, entry_state}
+use Rattle.beam_code.specs.Slots.{State, BelowIfReached, entry_state, state_of}
 
 -- a state for each label, or none where it is not reached
 abbrev pub Assignment : Type 0
 Assignment = ℕ → Option State
+
+-- the state that is listed at a label, and none at a label that is not listed
+abbrev pub listed_at : List (ℕ × Option SlotState) → ℕ → Option State
+listed_at [] label = None
+listed_at (entry ∷ entries) label = if nat_eq entry.0 label then option_map state_of entry.1 else listed_at entries label
+
+-- the assignment that a map stands for
+abbrev pub assignment_of : SlotMap → Assignment
+assignment_of map = listed_at map.at
 
 -- the label is reached, in a state that the given one is below
 abbrev pub GoesTo : Assignment → Way → Type 0

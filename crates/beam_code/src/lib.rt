@@ -6,7 +6,9 @@
 //! which operands fit a row, what each row stands for, and which label rules a module keeps.
 #![tactic(auto)]
 
+mod constants;
 mod decode;
+mod fault;
 mod fits;
 mod flow;
 mod foreign;
@@ -18,8 +20,11 @@ mod module;
 mod opcode;
 mod operand;
 mod slot_state;
+mod steps;
 mod worked;
 
+pub use constants::{External, MoreSources, Numbers, Sources, external_of, numbers_of, sources_of};
+pub use fault::StepFault;
 pub use flow::{Branches, branches_of, builtin_called, holds, may_raise};
 pub use foreign::holds_foreign;
 pub use instr::Instr;
@@ -29,4 +34,5 @@ pub use module::{Function, Module};
 pub use opcode::{CallKind, Callee, MapUpdate, Marking, Opcode, Piece, Unmatched};
 pub use operand::{LAST_COUNT, LAST_REGISTER, Operand, Reg, Src};
 pub use slot_state::{MOST_SLOTS, SlotMap, SlotState};
+pub use steps::{after, enter, leave};
 pub use worked::{worked_instructions, worked_slots, worked_weights};
