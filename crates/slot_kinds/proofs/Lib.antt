@@ -1,0 +1,4 @@
+pub mod AnswerLaw
+pub mod UnionLaw
+pub mod SegmentLaw
+pub mod JoinLaw

@@ -1,0 +1,4 @@
+pub mod Answer
+pub mod Unions
+pub mod Segments
+pub mod Joins
