@@ -8,3 +8,4 @@ pub mod SlotStates
 pub mod BelowLaw
 pub mod FlowBelow
 pub mod FlowPartsLaw
+pub mod AfterLaw

@@ -305,6 +305,13 @@ frame-is : (frame : Option ℕ) (n m : ℕ) → is_frame frame n ≡ true → is
 frame-is None n m h i = absurd (true≢false (sym h))
 frame-is (Some size) n m h i = grind (arith, nat_tests)
 
+-- what is left of a frame where the first slots go
+pub slots-left : (frame : Option ℕ) (size n m : ℕ) → frame ≡ Some size → is_frame frame (n + m) ≡ true → size - n ≡ m
+slots-left frame size n m e h = left size (ap (λ f. is_frame f (n + m)) (sym e) ∙ h)
+  where
+    left : (size : ℕ) → nat_eq size (n + m) ≡ true → size - n ≡ m
+    left size i = grind (arith, nat_tests)
+
 module _ (s : SlotState) (n m : ℕ) (ys : List Kind) (h : is_frame s.frame (n + m) ≡ true) where
   pub slots-there : n ≤ length s.ys
   slots-there = omega (arith, frame-is s.frame (n + m) (length s.ys) h s.ys_fit)

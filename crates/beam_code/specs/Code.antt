@@ -1,5 +1,5 @@
 -- Functions and modules by what their instructions do.
-use Rattle.std.specs.Prelude.{ℕ, List, map, unwrap_or}
+use Rattle.std.specs.Prelude.{ℕ, List, [], map, get_or, unwrap_or}
 use Rattle.beam_code.specs.declared.instr.Instr.{Instr}
 use Rattle.beam_code.specs.declared.module.Function.{Function}
 use Rattle.beam_code.specs.declared.module.Module.{Module}
@@ -28,3 +28,13 @@ pub record ModuleCode : Type 0 where
 
 abbrev pub module_code : Module → ModuleCode
 module_code m = record { name = m.name; functions = map function_code m.functions }
+
+-- what the function of that number, from 0, is, and the instruction of it; the `no_function` and the `Line` stand for none
+abbrev pub no_function : FunctionCode
+no_function = record { name = []; arity = 0; entry = 0; code = [] }
+
+abbrev pub function_at : ModuleCode → ℕ → FunctionCode
+function_at m func = get_or m.functions func no_function
+
+abbrev pub opcode_at : ModuleCode → ℕ → ℕ → Opcode
+opcode_at m func index = get_or (function_at m func).code index Line

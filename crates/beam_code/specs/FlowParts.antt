@@ -149,6 +149,17 @@ left RawRaise s = Some (with_x 0 k.Term s)
 left BuildStacktrace s = Some (with_x 0 k.Term s)
 left _ s = Some s
 
+-- the state of an instruction whose row held before it, in which it goes to its labels
+pub record IsEntered (o : Opcode) (t : State) : Type 0 where
+  pub before : State
+  pub allowed : allows o before ≡ true
+  pub is : t ≡ entered o before
+
+-- the state in which it falls through, if it does
+abbrev pub falls_as : Bool → State → Option State
+falls_as true s = Some s
+falls_as false s = None
+
 -- the whole, where the row holds
 abbrev pub parts : Opcode → State → Flow
 parts o s = record {

@@ -18,6 +18,7 @@ pub mod Weights
 pub mod Pool
 pub mod FlowParts
 pub mod FlowSeen
+pub mod After
 pub mod WorkedSlots
 pub mod WorkedWeights
 pub mod Worked

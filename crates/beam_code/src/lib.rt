@@ -7,6 +7,7 @@
 #![tactic(auto)]
 
 mod decode;
+mod fault;
 mod fits;
 mod flow;
 mod foreign;
@@ -18,8 +19,10 @@ mod module;
 mod opcode;
 mod operand;
 mod slot_state;
+mod steps;
 mod worked;
 
+pub use fault::StepFault;
 pub use flow::{Branches, branches_of, builtin_called, holds, may_raise};
 pub use foreign::holds_foreign;
 pub use instr::Instr;
@@ -29,4 +32,5 @@ pub use module::{Function, Module};
 pub use opcode::{CallKind, Callee, MapUpdate, Marking, Opcode, Piece, Unmatched};
 pub use operand::{LAST_COUNT, LAST_REGISTER, Operand, Reg, Src};
 pub use slot_state::{MOST_SLOTS, SlotMap, SlotState};
+pub use steps::{after, enter, leave};
 pub use worked::{worked_instructions, worked_slots, worked_weights};

@@ -37,7 +37,7 @@ impl SlotState {
     ghost use Rattle.beam_code.specs.declared.kind.Kind.TheVariants.{Undefined, Term};
     ghost use Rattle.beam_code.specs.SlotForm.{is_kind, is_undefined};
     ghost use Rattle.beam_code.specs.Slots.{state_of, entry_state, has_slot, with_y};
-    ghost use Rattle.beam_code.specs.Flow.{kind_in, writes, live, after_call, caught as caught_in, exception, framed, unframed, trimmed, is_frame};
+    ghost use Rattle.beam_code.specs.Flow.{kind_in, writes, live, after_call, caught as caught_in, cleared, exception, framed, unframed, trimmed, is_frame};
     ghost use Rattle.beam_code.specs.Flow as flow;
     ghost use Rattle.beam_code.specs.FlowParts.{has};
     ghost use Rattle.beam_code.specs.Slots.{with_xs};
@@ -132,6 +132,13 @@ impl SlotState {
         kinds::trim(&mut self.xs);
     }
 
+    // Every x undefined.
+    pub(crate) fn clear(&mut self)
+        ensures { state_of self.new ≡ cleared (state_of self.old) }
+    {
+        kinds::shorten(&mut self.xs, 0);
+    }
+
     // A term in x0, every other x undefined.
     pub(crate) fn answer(&mut self) -> Result<(), AllocError>
         ensures { OnOk result (state_of self.new ≡ after_call (state_of self.old)) }
@@ -169,11 +176,13 @@ impl SlotState {
     }
 
     // The first slots of the frame gone, that many left.
-    pub(crate) fn drop_slots(&mut self, dropped: u16, count: u16)
+    pub(crate) fn drop_slots(&mut self, dropped: u32, count: u32)
         requires { is_frame (state_of self.old).frame (dropped + count) ≡ true }
         ensures { state_of self.new ≡ trimmed dropped count (state_of self.old) }
     {
         kinds::behead(&mut self.ys, dropped as usize);
-        self.frame = Some(count);
+        if let Some(size) = self.frame {
+            self.frame = Some(size - dropped as u16);
+        }
     }
 }
