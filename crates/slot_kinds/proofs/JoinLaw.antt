@@ -3,18 +3,21 @@ use Rattle.std.proofs.Common.{◌≡◌, ◌<◌, ◌≤◌, ℕ, zero, suc, ◌
 use Rattle.std.specs.Prelude.{if◌then◌else◌, max, ◌⊎◌}
 use borrow.Author.Count.{below_more}
 use Rattle.std.proofs.lemmas.List.{get_or_append_left, get_or_push, get_or_past, take_more, take_all, length_push}
-use Rattle.std.proofs.lemmas.List.Sums.{sum_by_push}
+use Rattle.std.proofs.lemmas.List.Sums.{sum_by_push, sum_by-append}
+use Rattle.beam_code.specs.declared.slot_state.SlotState.{SlotState}
+use Rattle.beam_code.specs.Kinds.{IsFront}
 use Rattle.std.specs.List.{list_all, sum_by}
 use Rattle.std.proofs.lemmas.Bool.{true≢false}
+use Rattle.std.proofs.lemmas.Bool.Decides.{nat_tests}
 use Rattle.beam_code.specs.declared.kind.Kind.{Kind}
 use Rattle.beam_code.specs.declared.kind.Kind.TheVariants as k
 use Rattle.beam_code.specs.Flow.{is_tag}
 use Rattle.beam_code.specs.Labels.{is_in}
-use Rattle.beam_code.specs.SlotForm.{rises, is_kind}
-use Rattle.beam_code.specs.Slots.{State, Below, below_kind, listed}
+use Rattle.beam_code.specs.SlotForm.{rises, is_kind, is_size}
+use Rattle.beam_code.specs.Slots.{State, Below, below_kind, listed, state_of}
 use Rattle.beam_code.proofs.BelowLaw.{all-in, in-all, or-right, below-refl}
 use Rattle.slot_kinds.specs.Unions.{union, Grows, IsUnited}
-use Rattle.slot_kinds.specs.Joins.{IsJoinKind, NoJoinKind, rank, bit, meeting, changes, IsMet, AreMetTo, AreMet, Clash}
+use Rattle.slot_kinds.specs.Joins.{IsJoinKind, NoJoinKind, rank, bit, meeting, changes, IsMet, AreMetTo, AreMet, Clash, IsJoin, NoJoin, JoinsTo, rank_of}
 use Rattle.slot_kinds.proofs.UnionLaw.{in-union, union-rises}
 
 le-or-lt : (m n : ℕ) → (m ≤ n) ⊎ (n < m)
@@ -208,3 +211,38 @@ met-all at a b c changed h e = record {
         subst (λ x. IsJoinKind x (listed b n) (listed c n)) (sym (end-a n p)) (subst (λ x. IsJoinKind k.Undefined x (listed c n)) (sym (end-b n p)) (subst (IsJoinKind k.Undefined k.Undefined) (sym (end-c n p)) (to-top k.Undefined k.Undefined refl refl refl)))
     past-below : (n : ℕ) → at ≤ n → below_kind (listed b n) (listed a n) ≡ true
     past-below n p = subst (λ x. below_kind x (listed a n) ≡ true) (sym (end-b n p)) (subst (λ x. below_kind k.Undefined x ≡ true) (sym (end-a n p)) refl)
+
+-- States.
+
+pub same-size : (f : Option ℕ) (m n : ℕ) → is_size f m ≡ true → is_size f n ≡ true → m ≡ n
+same-size None m n p q = grind (arith, nat_tests)
+same-size (Some size) m n p q = grind (arith, nat_tests)
+
+-- the frames differ
+pub apart-frames : (s t : State) → (s.frame ≡ t.frame → ⊥) → NoJoin s t
+apart-frames s t ne d p q = ne (p.frame ∙ sym q.frame)
+
+pub clash-xs : (s t : SlotState) → Clash s.xs t.xs → NoJoin (state_of s) (state_of t)
+clash-xs s t h d p q = h.1 (d.xs h.0) (p.xs h.0) (q.xs h.0)
+
+pub clash-ys : (s t : SlotState) → Clash s.ys t.ys → NoJoin (state_of s) (state_of t)
+clash-ys s t h d p q = h.1 (d.ys h.0) (p.ys h.0) (q.ys h.0)
+
+-- neither list changed
+pub stays-below : (s t : SlotState) (xs ys : List Kind) (cx cy : Bool) → s.frame ≡ t.frame → AreMet s.xs t.xs xs cx → AreMet s.ys t.ys ys cy → cx ≡ false → cy ≡ false → JoinsTo s t None
+stays-below s t xs ys cx cy e x y fx fy = record { frame = sym e; xs = x.same fx; ys = y.same fy }
+
+join-of : (s t : SlotState) (xs ys : List Kind) (cx cy : Bool) → s.frame ≡ t.frame → AreMet s.xs t.xs xs cx → AreMet s.ys t.ys ys cy
+    → IsJoin (state_of s) (state_of t) (record { frame = s.frame; xs = listed xs; ys = listed ys })
+join-of s t xs ys cx cy e x y = record {
+  one = record { frame = refl; xs = λ n. (x.joins n).one; ys = λ n. (y.joins n).one };
+  other = record { frame = sym e; xs = λ n. (x.joins n).other; ys = λ n. (y.joins n).other };
+  least = λ d p q. record { frame = p.frame; xs = λ n. (x.joins n).least (d.xs n) (p.xs n) (q.xs n); ys = λ n. (y.joins n).least (d.ys n) (p.ys n) (q.ys n) };
+}
+
+-- one of them did
+pub rises-to : (s t u : SlotState) (xs ys : List Kind) (cx cy : Bool) → s.frame ≡ t.frame → AreMet s.xs t.xs xs cx → AreMet s.ys t.ys ys cy → 1 ≤ bit cx + bit cy
+    → state_of u ≡ record { frame = s.frame; xs = listed xs; ys = listed ys } → IsFront u.xs xs → u.ys ≡ ys → JoinsTo s t (Some u)
+rises-to s t u xs ys cx cy e x y c is front same =
+    (subst (IsJoin (state_of s) (state_of t)) (sym is) (join-of s t xs ys cx cy e x y),
+    omega (arith, x.falls, y.falls, c, ap (sum_by rank) same, ap (sum_by rank) front.1, sum_by-append rank u.xs front.0))

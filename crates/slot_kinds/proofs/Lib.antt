@@ -2,3 +2,4 @@ pub mod AnswerLaw
 pub mod UnionLaw
 pub mod SegmentLaw
 pub mod JoinLaw
+pub mod GoesLaw

@@ -2,3 +2,5 @@ pub mod Answer
 pub mod Unions
 pub mod Segments
 pub mod Joins
+pub mod Tables
+pub mod Rows

@@ -1,6 +1,6 @@
 //! What slots hold where two ways meet.
 
-ghost use Rattle.std.specs.Prelude.{◌≡◌, true, false, unwrap_or, IfOk, option_copied};
+ghost use Rattle.std.specs.Prelude.{◌≡◌, ◌↔◌, true, false, unwrap_or, IfOk, IsTrue, option_copied};
 ghost use Rattle.std.specs.List.{list_all};
 ghost use Rattle.beam_code.specs.declared.kind.Kind.TheVariants.{Undefined, Tag};
 ghost use Rattle.beam_code.specs.Flow.{is_tag as is_tag_in};
@@ -162,15 +162,17 @@ pub(crate) fn join(
     }
     match join_kinds(alloc, state.xs.as_slice(), other.xs.as_slice()) {
         Err(fault) => Err(fault),
-        Ok((xs, xs_changed)) => match join_kinds(alloc, state.ys.as_slice(), other.ys.as_slice()) {
-            Err(fault) => Err(fault),
-            Ok((ys, ys_changed)) => {
-                if !xs_changed && !ys_changed {
-                    return Ok(None);
+        Ok((xs, xs_changed)) => {
+            match join_kinds(alloc, state.ys.as_slice(), other.ys.as_slice()) {
+                Err(fault) => Err(fault),
+                Ok((ys, ys_changed)) => {
+                    if xs_changed || ys_changed {
+                        return Ok(Some(SlotState::make(state.frame, xs, ys)));
+                    }
+                    Ok(None)
                 }
-                Ok(Some(joined(state.frame, xs, ys)))
             }
-        },
+        }
     }
 }
 
@@ -184,18 +186,4 @@ fn is_same_frame(one: Option<u16>, other: Option<u16>) -> bool
             Some(other_size) => size == other_size,
         },
     }
-}
-
-// The state with these kinds.
-fn joined(frame: Option<u16>, xs: Items<Kind>, ys: Items<Kind>) -> SlotState
-    requires few { length xs ≤ 1024 }
-    requires xs_formed { list_all is_kind xs ≡ true }
-    requires ys_fit { is_size frame (length ys) ≡ true }
-    requires ys_formed { list_all is_kind ys ≡ true }
-    ensures is { state_of result ≡ record { frame = frame; xs = listed xs; ys = listed ys } }
-    ensures lower { rank_of result ≤ sum_by rank xs + sum_by rank ys }
-{
-    let mut xs = xs;
-    trim(&mut xs);
-    SlotState { frame, xs, ys }
 }

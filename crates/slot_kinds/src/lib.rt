@@ -6,6 +6,7 @@
 
 mod fault;
 mod join;
+mod table;
 mod tags;
 
 pub use fault::SlotFault;
