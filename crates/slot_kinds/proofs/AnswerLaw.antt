@@ -1,14 +1,13 @@
 -- Refusals that are handed on.
 use Rattle.std.specs.Prelude.{◌≡◌, Result, Ok, Err}
-use Rattle.std.proofs.Common.{subst, sym}
 use Rattle.slot_kinds.specs.declared.fault.SlotFault.{SlotFault}
 use Rattle.slot_kinds.specs.declared.fault.SlotFault.TheVariants.{NotSlotted, NoMemory}
 use Rattle.slot_kinds.specs.Answer.{Answers}
 
-pub handed-on : {A B : Type 0} (P : A → Type 0) (Q : B → Type 0) (R S : Type 0) (fault : SlotFault) → (R → S) → Answers P R (Err fault) → Answers Q S (Err fault)
-handed-on P Q R S NotSlotted f h = f h
-handed-on P Q R S NoMemory f h = tt
+-- what holds of a refusal
+abbrev pub Refused : Type 0 → SlotFault → Type 0
+Refused r fault = Answers {A = Unit {0}} (λ x. Unit {0}) r (Err fault)
 
--- want of memory
-pub no-memory : {A : Type 0} (P : A → Type 0) (R : Type 0) (fault : SlotFault) → fault ≡ NoMemory → Answers P R (Err fault)
-no-memory P R fault e = subst (λ f. Answers P R (Err f)) (sym e) tt
+pub handed-on : (r s : Type 0) (fault : SlotFault) → (r → s) → Refused r fault → Refused s fault
+handed-on r s NotSlotted f h = f h
+handed-on r s NoMemory f h = tt

@@ -1,9 +1,9 @@
 -- The join of two kinds, of two lists of kinds, and of two states.
-use Rattle.std.proofs.Common.{◌≡◌, ◌<◌, ◌≤◌, ℕ, zero, suc, ◌+◌, ◌-◌, ◌^◌, Bool, true, false, ◌&&◌, ◌||◌, List, [], ◌∷◌, ◌++◌, take, drop, length, get_or, Option, None, Some, refl, sym, ap, subst, ◌∙◌, arith, inl, inr}
+use Rattle.std.proofs.Common.{◌≡◌, ◌<◌, ◌≤◌, ℕ, zero, suc, ◌+◌, ◌-◌, ◌*◌, ◌^◌, Bool, true, false, ◌&&◌, ◌||◌, List, [], ◌∷◌, ◌++◌, take, drop, length, get_or, Option, None, Some, refl, sym, ap, subst, ◌∙◌, arith, inl, inr, lit≤, suc-mul}
 use Rattle.std.specs.Prelude.{if◌then◌else◌, max, ◌⊎◌}
 use borrow.Author.Count.{below_more}
 use Rattle.std.proofs.lemmas.List.{get_or_append_left, get_or_push, get_or_past, take_more, take_all, length_push}
-use Rattle.std.proofs.lemmas.List.Sums.{sum_by_push, sum_by-append}
+use Rattle.std.proofs.lemmas.List.Sums.{sum_by_push, sum_by-append, sum_by-cons}
 use Rattle.beam_code.specs.declared.slot_state.SlotState.{SlotState}
 use Rattle.beam_code.specs.Kinds.{IsFront}
 use Rattle.std.specs.List.{list_all, sum_by}
@@ -246,3 +246,35 @@ pub rises-to : (s t u : SlotState) (xs ys : List Kind) (cx cy : Bool) → s.fram
 rises-to s t u xs ys cx cy e x y c is front same =
     (subst (IsJoin (state_of s) (state_of t)) (sym is) (join-of s t xs ys cx cy e x y),
     omega (arith, x.falls, y.falls, c, ap (sum_by rank) same, ap (sum_by rank) front.1, sum_by-append rank u.xs front.0))
+
+-- the same where the lists are given by other names
+pub rises-from : (s t u : SlotState) (ax bx ay by xs ys : List Kind) (cx cy : Bool) → ax ≡ s.xs → bx ≡ t.xs → ay ≡ s.ys → by ≡ t.ys → s.frame ≡ t.frame → AreMet ax bx xs cx → AreMet ay by ys cy → 1 ≤ bit cx + bit cy
+    → state_of u ≡ record { frame = s.frame; xs = listed xs; ys = listed ys } → IsFront u.xs xs → u.ys ≡ ys → JoinsTo s t (Some u)
+rises-from s t u ax bx ay by xs ys cx cy eax ebx eay eby e x y =
+    rises-to s t u xs ys cx cy e (subst (λ l. AreMet l t.xs xs cx) eax (subst (λ l. AreMet ax l xs cx) ebx x)) (subst (λ l. AreMet l t.ys ys cy) eay (subst (λ l. AreMet ay l ys cy) eby y))
+
+pub one-bit : (a b : Bool) → a ≡ true → 1 ≤ bit a + bit b
+one-bit a b e = subst (λ x. 1 ≤ bit x + bit b) (sym e) (omega arith)
+
+pub other-bit : (a b : Bool) → b ≡ true → 1 ≤ bit a + bit b
+other-bit a b e = subst (λ x. 1 ≤ bit a + bit x) (sym e) (omega arith)
+
+-- Ranks are bounded.
+
+rank-bound : (kind : Kind) → rank kind ≤ 2 ^ 64
+rank-bound k.Undefined = omega arith
+rank-bound k.Term = lit≤ tt
+rank-bound k.OptTerm = lit≤ tt
+rank-bound (k.Tag labels) = omega arith
+rank-bound k.Trace = lit≤ tt
+rank-bound k.Marker = lit≤ tt
+
+add-bound : (r s n top : ℕ) → r ≤ top → s ≤ n * top → r + s ≤ suc n * top
+add-bound r s n top p q = subst (λ m. r + s ≤ m) (sym (suc-mul n top)) (omega arith)
+
+ranks-bound : (kinds : List Kind) → sum_by rank kinds ≤ length kinds * 2 ^ 64
+ranks-bound [] = omega arith
+ranks-bound (kind ∷ kinds) = subst (λ m. m ≤ suc (length kinds) * 2 ^ 64) (sym (sum_by-cons rank kind kinds)) (add-bound (rank kind) (sum_by rank kinds) (length kinds) (2 ^ 64) (rank-bound kind) (ranks-bound kinds))
+
+pub state-bound : (s : SlotState) → length s.ys < 2 ^ 64 → rank_of s < 2 ^ 130
+state-bound s h = omega (arith, ranks-bound s.xs, ranks-bound s.ys, s.xs_few, h)

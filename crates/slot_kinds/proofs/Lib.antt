@@ -3,3 +3,4 @@ pub mod UnionLaw
 pub mod SegmentLaw
 pub mod JoinLaw
 pub mod GoesLaw
+pub mod TableLaw

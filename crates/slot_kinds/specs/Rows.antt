@@ -46,7 +46,7 @@ pub record IsFresh (code : List Opcode) (t : Table) : Type 0 where
 -- the state that a label rises to, where it is reached in another
 abbrev pub RisesTo : Option SlotState → SlotState → Option SlotState → Type 0
 RisesTo None s None = ⊥
-RisesTo None s (Some u) = (state_of u ≡ state_of s) × (rank_of u < 2 ^ 82)
+RisesTo None s (Some u) = (state_of u ≡ state_of s) × (rank_of u < 2 ^ 130)
 RisesTo (Some old) s next = JoinsTo old s next
 
 abbrev pub NoRise : Option SlotState → SlotState → Type 0

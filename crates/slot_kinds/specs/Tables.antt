@@ -31,7 +31,7 @@ is_pending t label = contains nat_cmp t.pending label
 
 -- a label that is not reached counts more than any state
 abbrev pub state_rank : Option SlotState → ℕ
-state_rank None = 2 ^ 82
+state_rank None = 2 ^ 130
 state_rank (Some s) = rank_of s
 
 abbrev pub row_rank : Row → ℕ

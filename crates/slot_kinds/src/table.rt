@@ -1,6 +1,6 @@
 //! The states of labels, while they are found.
 
-ghost use Rattle.std.specs.Prelude.{◌≡◌, map, IfOk, OnOk};
+ghost use Rattle.std.specs.Prelude.{◌≡◌, ◌<◌, ◌^◌, map, IfOk, OnOk};
 ghost use Rattle.std.specs.Ordering.{nat_cmp};
 ghost use Rattle.std.specs.BTreeMap.{get};
 ghost use Rattle.beam_code.specs.Code.{opcode as opcode_of};
@@ -8,6 +8,7 @@ ghost use Rattle.beam_code.specs.Good.{GoesTo};
 ghost use Rattle.beam_code.specs.Seen.{opcode_seen};
 ghost use Rattle.beam_code.specs.Slots.{state_of};
 ghost use Rattle.slot_kinds.specs.Answer.{Answers};
+ghost use Rattle.slot_kinds.specs.Joins.{rank_of};
 ghost use Rattle.slot_kinds.specs.Tables.{held, Goes, Nothing, Refuses};
 ghost use Rattle.slot_kinds.specs.Rows.{Defines, IsFresh, Raises, RisesTo, NoRise};
 
@@ -91,9 +92,18 @@ fn risen(
     ensures { Answers (RisesTo old.now state.now) (NoRise old.now state.now) result }
 {
     match old {
-        None => Ok(Some(state.copy(alloc)?)),
+        None => Ok(Some(copied(alloc, state)?)),
         Some(old) => join(alloc, old, state),
     }
+}
+
+// The same state; its rank is below that of what is not reached.
+fn copied(alloc: Global, state: &SlotState) -> Result<SlotState, AllocError>
+    ensures { IfOk result (λ s. (state_of s ≡ state_of state.now) × (rank_of s < 2 ^ 130)) }
+{
+    let copy = state.copy(alloc)?;
+    let _slots = copy.ys.len();
+    Ok(copy)
 }
 
 // A row for the label that the instruction defines, if it is one that has none.

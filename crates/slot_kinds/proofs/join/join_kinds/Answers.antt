@@ -2,7 +2,7 @@ use Rattle.std.proofs.Common.{◌≡◌, ◌+◌, ◌≤◌, ◌∙◌, ap, sym,
 use Rattle.std.specs.Prelude.{if◌then◌else◌, unwrap_or, option_copied}
 use Rattle.beam_code.specs.declared.kind.Kind.TheVariants.{Undefined}
 use Rattle.beam_code.specs.Slots.{listed}
-use Rattle.slot_kinds.specs.Joins.{IsMet, AreMetTo, NoJoinKind}
+use Rattle.slot_kinds.specs.Joins.{IsMet, AreMetTo, NoJoinKind, Clash}
 use Rattle.slot_kinds.proofs.JoinLaw.{met-more, met-all}
 use Rattle.slot_kinds.proofs.AnswerLaw.{handed-on}
 use Rattle.slot_kinds.proofs.join.join_kinds.Goals as goal
@@ -10,7 +10,7 @@ use Rattle.slot_kinds.proofs.join.join_kinds.Goals.{then-met, else-met}
 
 pub returns-in-Err : goal.returns-in-Err
 returns-in-Err c =
-    handed-on _ _ _ _ c.in-Err.fault
+    handed-on (NoJoinKind (unwrap_or (option_copied c.get.result) Undefined) (unwrap_or (option_copied c.get-in-loop-at.result) Undefined)) (Clash c.args.kinds.now c.args.others.now) c.in-Err.fault
     (λ no. (c.loop-at.at,
       subst (λ x. NoJoinKind x (listed c.args.others.now c.loop-at.at)) (c.get.ensures.lookup.4 (omega arith) Undefined)
       (subst (λ x. NoJoinKind (unwrap_or (option_copied c.get.result) Undefined) x) (c.get-in-loop-at.ensures.lookup.4 (omega arith) Undefined) no)))
