@@ -4,3 +4,4 @@ pub mod SegmentLaw
 pub mod JoinLaw
 pub mod GoesLaw
 pub mod TableLaw
+pub mod WalkLaw

@@ -1,18 +1,20 @@
 -- How the table of labels is made, and how the state of a label rises in it.
-use Rattle.std.proofs.Common.{◌≡◌, ◌<◌, ◌≤◌, ℕ, zero, suc, ◌+◌, ◌*◌, ◌^◌, Bool, true, false, cond, nat_eq, ◌||◌, List, [], ◌∷◌, ◌++◌, take, drop, length, get_or, Option, None, Some, inl, inr, refl, sym, ap, subst, ◌∙◌, arith, add-one}
+use Rattle.std.proofs.Common.{◌≡◌, ◌<◌, ◌≤◌, ℕ, zero, suc, ◌+◌, ◌*◌, ◌^◌, Bool, true, false, cond, nat_eq, ◌||◌, List, [], ◌∷◌, ◌++◌, take, drop, map, length, get_or, Option, None, Some, inl, inr, refl, sym, ap, subst, ◌∙◌, arith, add-one}
 use Rattle.std.specs.Prelude.{if◌then◌else◌, is_some, ◌⊎◌, option_map, unwrap_or}
 use Rattle.std.specs.Option.{option_or}
 use Rattle.std.specs.List.{filter_map, sum_by}
 use Rattle.std.specs.Ordering.{nat_cmp}
 use Rattle.std.specs.Cmp.{nat_eq_equiv, nat_cmp_total}
-use Rattle.std.specs.BTreeMap as map
+use Rattle.std.specs.BTreeMap as tree
 use Rattle.std.specs.BTreeSet as set
 use Rattle.std.specs.Map.{values_of}
 use Rattle.std.proofs.lemmas.Bool.{true≢false}
 use Rattle.std.proofs.lemmas.Bool.Decides.{nat_tests}
-use Rattle.std.proofs.lemmas.List.{take_more, take_all}
+use Rattle.std.proofs.lemmas.List.{take_more, take_all, get_or-map}
 use Rattle.std.proofs.lemmas.Map.Entries.{sum_by-insert_entry}
 use Rattle.beam_code.specs.declared.slot_state.SlotState.{SlotState}
+use Rattle.beam_code.specs.declared.instr.Instr.{Instr}
+use Rattle.beam_code.specs.Code.{opcode}
 use Rattle.beam_code.specs.Good.{Assignment, GoesTo}
 use Rattle.beam_code.specs.Labels.{is_in, defined_in, defined_by, is_that}
 use Rattle.beam_code.specs.Opcode.{Opcode, Label, Line}
@@ -95,30 +97,30 @@ rows-more code at old new h r d = record {
           fresh = refl;
         })
 
-pub rows-fresh : (code : List Opcode) (t : Table) → AreRows code (length code) (map.get nat_cmp t.rows) → t.pending.keys ≡ [] → IsFresh code t
+pub rows-fresh : (code : List Opcode) (t : Table) → AreRows code (length code) (tree.get nat_cmp t.rows) → t.pending.keys ≡ [] → IsFresh code t
 rows-fresh code t r e = record {
   are = record {
-    defined = λ l. same (map.get nat_cmp t.rows l) ∙ r.defined l ∙ ap (λ c. is_in (defined_in c) l) (take_all (length code) code (omega arith));
-    within = λ l p h. elim-place l p (λ p. p ≤ length code) (λ row i. i.within) (map.get nat_cmp t.rows l) refl h;
-    behind = λ l p h. elim-place l p (λ p. drop p code ≡ behind l code) (λ row i. i.behind) (map.get nat_cmp t.rows l) refl h;
+    defined = λ l. same (tree.get nat_cmp t.rows l) ∙ r.defined l ∙ ap (λ c. is_in (defined_in c) l) (take_all (length code) code (omega arith));
+    within = λ l p h. elim-place l p (λ p. p ≤ length code) (λ row i. i.within) (tree.get nat_cmp t.rows l) refl h;
+    behind = λ l p h. elim-place l p (λ p. drop p code ≡ behind l code) (λ row i. i.behind) (tree.get nat_cmp t.rows l) refl h;
   };
-  unreached = λ l. none l (map.get nat_cmp t.rows l) refl;
+  unreached = λ l. none l (tree.get nat_cmp t.rows l) refl;
   still = e;
 }
   where
     same : (o : Option Row) → is_some (option_map (λ (row : Row). row.place) o) ≡ is_some o
     same None = refl
     same (Some row) = refl
-    elim-place : (l p : ℕ) (P : ℕ → Type 0) → ((row : Row) → IsRow code l row → P row.place) → (o : Option Row) → map.get nat_cmp t.rows l ≡ o → option_map (λ (row : Row). row.place) o ≡ Some p → P p
+    elim-place : (l p : ℕ) (P : ℕ → Type 0) → ((row : Row) → IsRow code l row → P row.place) → (o : Option Row) → tree.get nat_cmp t.rows l ≡ o → option_map (λ (row : Row). row.place) o ≡ Some p → P p
     elim-place l p P f None h g = absurd (let e : None ≡ Some p = g in cc)
     elim-place l p P f (Some row) h g = let e : row.place ≡ p = cc in subst P e (f row (r.each l row h))
-    none : (l : ℕ) (o : Option Row) → map.get nat_cmp t.rows l ≡ o → state_in o ≡ None
+    none : (l : ℕ) (o : Option Row) → tree.get nat_cmp t.rows l ≡ o → state_in o ≡ None
     none l None h = refl
     none l (Some row) h = ap (option_map state_of) (r.each l row h).fresh
 
 -- Rising.
 
-pub no-rise : (t : Table) (label : ℕ) (row : Row) (s : SlotState) → map.get nat_cmp t.rows label ≡ Some row → NoRise row.state s → Refuses (λ at. GoesTo at (label, state_of s)) t
+pub no-rise : (t : Table) (label : ℕ) (row : Row) (s : SlotState) → tree.get nat_cmp t.rows label ≡ Some row → NoRise row.state s → Refuses (λ at. GoesTo at (label, state_of s)) t
 no-rise t label row s e h at u o = by row.state h (at label) (subst (λ r. BelowIfReached (state_in r) (at label)) e (u label)) o
   where
     by : (old : Option SlotState) → NoRise old s → (d : Option State) → BelowIfReached (option_map state_of old) d → BelowIfReached (Some (state_of s)) d → ⊥
@@ -127,7 +129,7 @@ no-rise t label row s e h at u o = by row.state h (at label) (subst (λ r. Below
     by (Some old) h (Some d) p q = h d p q
 
 -- the label is reached in a higher state already
-pub stays-goes : (t : Table) (label : ℕ) (row : Row) (s : SlotState) → map.get nat_cmp t.rows label ≡ Some row → RisesTo row.state s None → Goes (λ at. GoesTo at (label, state_of s)) Nothing t t
+pub stays-goes : (t : Table) (label : ℕ) (row : Row) (s : SlotState) → tree.get nat_cmp t.rows label ≡ Some row → RisesTo row.state s None → Goes (λ at. GoesTo at (label, state_of s)) Nothing t t
 stays-goes t label row s e h = record {
   stays = refl;
   rises = under-same (held t);
@@ -144,10 +146,10 @@ stays-goes t label row s e h = record {
     by (Some old) h None p = absurd p
     by (Some old) h (Some d) p = below-below (state_of s) (state_of old) d h p
 
-at-same : (l q : ℕ) → map.is_at (nat_cmp l) q ≡ true → l ≡ q
+at-same : (l q : ℕ) → tree.is_at (nat_cmp l) q ≡ true → l ≡ q
 at-same l q h = grind (arith, nat_tests)
 
-at-here : (l : ℕ) → map.is_at (nat_cmp l) l ≡ true
+at-here : (l : ℕ) → tree.is_at (nat_cmp l) l ≡ true
 at-here l = grind (arith, nat_tests)
 
 rise-below : (old : Option SlotState) (s u : SlotState) → RisesTo old s (Some u) → BelowIfReached (option_map state_of old) (Some (state_of u))
@@ -174,46 +176,50 @@ in-cond false x y = refl
 less-work : (new old r p m n : ℕ) → new + r ≡ old + p → p < r → m ≤ n + 1 → 2 * new + m ≤ 2 * old + n
 less-work new old r p m n e l h = omega arith
 
-pub raise-goes : (a b : Table) (label : ℕ) (row : Row) (s u : SlotState) → map.get nat_cmp a.rows label ≡ Some row → RisesTo row.state s (Some u) → Raises label (record { place = row.place; state = Some u }) a b
+pub raise-goes : (a b : Table) (label : ℕ) (row : Row) (s u : SlotState) → tree.get nat_cmp a.rows label ≡ Some row → RisesTo row.state s (Some u) → Raises label (record { place = row.place; state = Some u }) a b
     → Goes (λ at. GoesTo at (label, state_of s)) Nothing a b
 raise-goes a b label row s u e h r = record {
-  stays = λ i l. shape l (map.is_at (nat_cmp label) l) refl i;
-  rises = λ q. subst (BelowIfReached (held a q)) (sym (now q)) (up q (map.is_at (nat_cmp label) q) refl);
+  stays = λ i l. shape l (tree.is_at (nat_cmp label) l) refl i;
+  rises = λ q. subst (BelowIfReached (held a q)) (sym (now q)) (up q (tree.is_at (nat_cmp label) q) refl);
   done = λ at v o. reached-below (Some (state_of s)) (Some (state_of u)) (at label) (rise-covers row.state s u h) (subst (λ x. BelowIfReached x (at label)) (here label (at-here label)) (v label));
-  least = λ at v o q. subst (λ x. BelowIfReached x (at q)) (sym (now q)) (low at v o q (map.is_at (nat_cmp label) q) refl);
+  least = λ at v o q. subst (λ x. BelowIfReached x (at q)) (sym (now q)) (low at v o q (tree.is_at (nat_cmp label) q) refl);
   left = λ at v o. tt;
-  settled = λ l p. quiet l (map.is_at (nat_cmp label) l) refl p;
-  kept = λ l p. same l (map.is_at (nat_cmp label) l) refl p;
+  settled = λ l p. quiet l (tree.is_at (nat_cmp label) l) refl p;
+  kept = λ l p. same l (tree.is_at (nat_cmp label) l) refl p;
   works = less-work _ _ (row_rank row) (rank_of u) _ _
       (ap (λ es. sum_by row_rank (values_of es) + row_rank row) r.entries
-        ∙ ap (λ o. sum_by row_rank (values_of (map.insert_entry nat_cmp a.rows.entries label (record { place = row.place; state = Some u }))) + unwrap_or (option_map row_rank o) 0) (sym e)
+        ∙ ap (λ o. sum_by row_rank (values_of (tree.insert_entry nat_cmp a.rows.entries label (record { place = row.place; state = Some u }))) + unwrap_or (option_map row_rank o) 0) (sym e)
         ∙ sum_by-insert_entry row_rank nat_cmp_total a.rows.entries label (record { place = row.place; state = Some u }) r.ordered)
       (rise-rank row.state s u h) r.few;
 }
   where
-    now : (q : ℕ) → held b q ≡ cond (map.is_at (nat_cmp label) q) (Some (state_of u)) (held a q)
-    now q = ap state_in (r.rows.0 q) ∙ in-cond (map.is_at (nat_cmp label) q) (Some (record { place = row.place; state = Some u })) (map.get nat_cmp a.rows q)
+    now : (q : ℕ) → held b q ≡ cond (tree.is_at (nat_cmp label) q) (Some (state_of u)) (held a q)
+    now q = ap state_in (r.rows.0 q) ∙ in-cond (tree.is_at (nat_cmp label) q) (Some (record { place = row.place; state = Some u })) (tree.get nat_cmp a.rows q)
     was : held a label ≡ option_map state_of row.state
     was = ap state_in e
-    here : (q : ℕ) → map.is_at (nat_cmp label) q ≡ true → held b q ≡ Some (state_of u)
+    here : (q : ℕ) → tree.is_at (nat_cmp label) q ≡ true → held b q ≡ Some (state_of u)
     here q t = now q ∙ ap (λ c. cond c (Some (state_of u)) (held a q)) t
-    away : (q : ℕ) → map.is_at (nat_cmp label) q ≡ false → held b q ≡ held a q
+    away : (q : ℕ) → tree.is_at (nat_cmp label) q ≡ false → held b q ≡ held a q
     away q t = now q ∙ ap (λ c. cond c (Some (state_of u)) (held a q)) t
-    up : (q : ℕ) (c : Bool) → map.is_at (nat_cmp label) q ≡ c → BelowIfReached (held a q) (cond c (Some (state_of u)) (held a q))
+    up : (q : ℕ) (c : Bool) → tree.is_at (nat_cmp label) q ≡ c → BelowIfReached (held a q) (cond c (Some (state_of u)) (held a q))
     up q true t = subst (λ l. BelowIfReached (held a l) (Some (state_of u))) (at-same label q t) (subst (λ x. BelowIfReached x (Some (state_of u))) (sym was) (rise-below row.state s u h))
     up q false t = reached-same (held a q)
-    low : (at : Assignment) → Under (held a) at → GoesTo at (label, state_of s) → (q : ℕ) (c : Bool) → map.is_at (nat_cmp label) q ≡ c → BelowIfReached (cond c (Some (state_of u)) (held a q)) (at q)
+    low : (at : Assignment) → Under (held a) at → GoesTo at (label, state_of s) → (q : ℕ) (c : Bool) → tree.is_at (nat_cmp label) q ≡ c → BelowIfReached (cond c (Some (state_of u)) (held a q)) (at q)
     low at v o q true t =
         subst (λ l. BelowIfReached (Some (state_of u)) (at l)) (at-same label q t) (rise-least row.state s u h (at label) (subst (λ x. BelowIfReached x (at label)) was (v label)) o)
     low at v o q false t = v q
-    quiet : (l : ℕ) (c : Bool) → map.is_at (nat_cmp label) l ≡ c → is_pending b l ≡ false → is_pending a l ≡ false
+    quiet : (l : ℕ) (c : Bool) → tree.is_at (nat_cmp label) l ≡ c → is_pending b l ≡ false → is_pending a l ≡ false
     quiet l true t p = absurd (true≢false (ap (λ c. cond c true (is_pending a l)) (sym t) ∙ sym (r.pending.0 l) ∙ p))
     quiet l false t p = ap (λ c. cond c true (is_pending a l)) (sym t) ∙ sym (r.pending.0 l) ∙ p
-    same : (l : ℕ) (c : Bool) → map.is_at (nat_cmp label) l ≡ c → is_pending b l ≡ false → held b l ≡ held a l
+    same : (l : ℕ) (c : Bool) → tree.is_at (nat_cmp label) l ≡ c → is_pending b l ≡ false → held b l ≡ held a l
     same l true t p = absurd (true≢false (ap (λ c. cond c true (is_pending a l)) (sym t) ∙ sym (r.pending.0 l) ∙ p))
     same l false t p = away l t
-    shape : (l : ℕ) (c : Bool) → map.is_at (nat_cmp label) l ≡ c → places b l ≡ places a l
+    shape : (l : ℕ) (c : Bool) → tree.is_at (nat_cmp label) l ≡ c → places b l ≡ places a l
     shape l true t =
-        ap (λ o. option_map (λ (row : Row). row.place) o) (r.rows.0 l ∙ ap (λ c. cond c (Some (record { place = row.place; state = Some u })) (map.get nat_cmp a.rows l)) t)
-        ∙ ap (λ o. option_map (λ (row : Row). row.place) o) (sym (ap (map.get nat_cmp a.rows) (sym (at-same label l t)) ∙ e))
-    shape l false t = ap (λ o. option_map (λ (row : Row). row.place) o) (r.rows.0 l ∙ ap (λ c. cond c (Some (record { place = row.place; state = Some u })) (map.get nat_cmp a.rows l)) t)
+        ap (λ o. option_map (λ (row : Row). row.place) o) (r.rows.0 l ∙ ap (λ c. cond c (Some (record { place = row.place; state = Some u })) (tree.get nat_cmp a.rows l)) t)
+        ∙ ap (λ o. option_map (λ (row : Row). row.place) o) (sym (ap (tree.get nat_cmp a.rows) (sym (at-same label l t)) ∙ e))
+    shape l false t = ap (λ o. option_map (λ (row : Row). row.place) o) (r.rows.0 l ∙ ap (λ c. cond c (Some (record { place = row.place; state = Some u })) (tree.get nat_cmp a.rows l)) t)
+
+-- what an instruction at a place stands for
+pub opcode-at : (code : List Instr) (at : ℕ) (i : Instr) (o : Opcode) → at < length code → i ≡ get_or code at i → o ≡ opcode i → o ≡ get_or (map opcode code) at Line
+opcode-at code at i o h e is = is ∙ ap opcode e ∙ sym (get_or-map opcode code at i Line h)

@@ -4,3 +4,4 @@ pub mod Segments
 pub mod Joins
 pub mod Tables
 pub mod Rows
+pub mod Walks

@@ -8,5 +8,6 @@ mod fault;
 mod join;
 mod table;
 mod tags;
+mod walk;
 
 pub use fault::SlotFault;
