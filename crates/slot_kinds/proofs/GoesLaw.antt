@@ -1,6 +1,10 @@
 -- Steps from table to table, one behind another.
 use Rattle.std.proofs.Common.{◌≡◌, ◌≤◌, ℕ, Bool, true, false, List, Option, None, Some, refl, sym, ap, subst, ◌∙◌, arith}
+use Rattle.std.specs.Prelude.{Result, Ok, Err}
 use Rattle.beam_code.specs.Good.{Assignment}
+use Rattle.slot_kinds.specs.declared.fault.SlotFault.{SlotFault}
+use Rattle.slot_kinds.specs.declared.fault.SlotFault.TheVariants.{NotSlotted, NoMemory}
+use Rattle.slot_kinds.specs.Answer.{Answers}
 use Rattle.slot_kinds.specs.declared.table.Table.{Table}
 use Rattle.slot_kinds.specs.Segments.{Under}
 use Rattle.slot_kinds.specs.Tables.{held, places, is_pending, work, Owed, Nothing, Goes, Refuses}
@@ -61,3 +65,31 @@ refuses-then p q a b g r at u o = r at (g.least at u o) (g.left at u o)
 
 pub refuses-as : (p q : Owed) (a : Table) → ((at : Assignment) → p at → q at) → Refuses q a → Refuses p a
 refuses-as p q a f r at u o = r at u (f at o)
+
+-- nothing is left where all that is left holds of itself
+pub goes-end : (p q : Owed) (a b : Table) → ((at : Assignment) → q at) → Goes p q a b → Goes p Nothing a b
+goes-end p q a b h g = record {
+  stays = g.stays;
+  rises = g.rises;
+  done = λ at u o. g.done at u (h at);
+  least = g.least;
+  left = λ at u o. tt;
+  settled = g.settled;
+  kept = g.kept;
+  works = g.works;
+}
+
+-- Answers of calls that do what is owed.
+
+abbrev pub Outcome : Owed → Table → Table → Result (Unit {0}) SlotFault → Type 0
+Outcome p a b r = Answers {A = Unit {0}} (λ x. Goes p Nothing a b) (Refuses p a) r
+
+pub outcome-as : (p q : Owed) (a b : Table) (r : Result (Unit {0}) SlotFault) → ((at : Assignment) → p at → q at) → ((at : Assignment) → q at → p at) → Outcome q a b r → Outcome p a b r
+outcome-as p q a b (Ok x) f g h = goes-as p q Nothing a b f g h
+outcome-as p q a b (Err NotSlotted) f g h = refuses-as p q a f h
+outcome-as p q a b (Err NoMemory) f g h = tt
+
+pub outcome-then : (p q : Owed) (a b c : Table) (r : Result (Unit {0}) SlotFault) → Goes p q a b → Outcome q b c r → Outcome p a c r
+outcome-then p q a b c (Ok x) g h = goes-then p q Nothing a b c g h
+outcome-then p q a b c (Err NotSlotted) g h = refuses-then p q a b g h
+outcome-then p q a b c (Err NoMemory) g h = tt
