@@ -5,3 +5,4 @@ pub mod JoinLaw
 pub mod GoesLaw
 pub mod TableLaw
 pub mod WalkLaw
+pub mod SettleLaw

@@ -1,7 +1,8 @@
 -- Labels are reached one by one, and instructions are passed one by one.
 use Rattle.std.proofs.Common.{◌≡◌, ◌<◌, ◌≤◌, ℕ, ◌+◌, Bool, true, false, List, [], ◌∷◌, map, drop, length, get_or, Option, None, Some, refl, sym, ap, subst, ◌∙◌, arith}
-use Rattle.std.specs.Prelude.{if◌then◌else◌, Result}
-use Rattle.std.proofs.lemmas.List.{drop_more, drop_all}
+use Rattle.std.specs.Prelude.{if◌then◌else◌, ◌==◌, Result}
+use Rattle.std.proofs.lemmas.Bool.Decides.{nat_tests}
+use Rattle.std.proofs.lemmas.List.{drop_more, drop_all, nil_from_length}
 use Rattle.beam_code.specs.Flow.{Way, Flow, flow, all_ways, raised_from}
 use Rattle.beam_code.specs.FlowParts.{allows, entered, left, parts, labels_gone}
 use Rattle.beam_code.specs.Good.{Assignment, GoesTo, GoToEach, Onward}
@@ -121,3 +122,6 @@ walk-past code i from s a b h g =
   where
     none : Some s ≡ None → ⊥
     none e = cc
+
+pub empty-is : (xs : List ℕ) (b : Bool) → b ≡ (length xs == 0) → b ≡ true → xs ≡ []
+empty-is xs b e h = let z : length xs ≡ 0 = grind (arith, nat_tests) in nil_from_length xs z

@@ -5,3 +5,4 @@ pub mod Joins
 pub mod Tables
 pub mod Rows
 pub mod Walks
+pub mod Settles

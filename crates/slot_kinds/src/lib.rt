@@ -6,8 +6,10 @@
 
 mod fault;
 mod join;
+mod settle;
 mod table;
 mod tags;
 mod walk;
 
 pub use fault::SlotFault;
+pub use settle::kinds;

@@ -9,12 +9,14 @@ ghost use Rattle.beam_code.specs.Seen.{opcode_seen};
 ghost use Rattle.beam_code.specs.Slots.{state_of};
 ghost use Rattle.slot_kinds.specs.Answer.{Answers};
 ghost use Rattle.slot_kinds.specs.Joins.{rank_of};
+ghost use Rattle.slot_kinds.specs.Settles.{entry_of};
 ghost use Rattle.slot_kinds.specs.Tables.{held, Goes, Nothing, Refuses};
 ghost use Rattle.slot_kinds.specs.Rows.{Defines, IsFresh, Raises, RisesTo, NoRise};
 
 use crate::SlotFault;
 use crate::join::join;
-use beam_code::{Instr, Opcode, SlotState};
+use beam_code::{Instr, Opcode, SlotMap, SlotState};
+use sqlite_items::Items;
 use std::alloc::{AllocError, Global};
 use std::collections::{BTreeMap, BTreeSet};
 
@@ -71,6 +73,20 @@ impl Table {
                 Ok(self.raise(label, row)?)
             }
         }
+    }
+
+    /// Each label with its state. The error says that memory was wanting.
+    pub(crate) fn into_map(self, alloc: Global) -> Result<SlotMap, AllocError>
+        ensures { IfOk result (λ m. m.at ≡ map entry_of self.rows.entries) }
+    {
+        let Table { mut rows, .. } = self;
+        let count = rows.len();
+        let mut at = Items::new(alloc);
+        while let Some((label, row)) = rows.pop_first() {
+            at.push((label, row.state))?;
+        }
+        prove!(at.len() == count);
+        Ok(SlotMap { at })
     }
 
     // The label has that row, and is pending.

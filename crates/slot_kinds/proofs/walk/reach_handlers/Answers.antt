@@ -4,11 +4,12 @@ use Rattle.beam_code.specs.Slots.{state_of}
 use Rattle.slot_kinds.specs.Tables.{Goes, Nothing}
 use Rattle.slot_kinds.specs.Walks.{ReachesEach}
 use Rattle.slot_kinds.proofs.GoesLaw.{goes-none, Outcome}
+use Rattle.slot_kinds.proofs.WalkLaw.{empty-is}
 use Rattle.slot_kinds.proofs.walk.reach_handlers.Goals as goal
 
 pub returns-then-is_empty : goal.returns-then-is_empty
 returns-then-is_empty c =
-    subst (λ ls. Goes (ReachesEach (caught (state_of c.args.state.now)) ls) Nothing c.args.table.now c.args.table.now) (sym (c.is_empty.ensures.0 c.if-is_empty.true) ∙ c.handlers-handlers.ensures)
+    subst (λ ls. Goes (ReachesEach (caught (state_of c.args.state.now)) ls) Nothing c.args.table.now c.args.table.now) (sym (empty-is c.handlers-handlers.result.now c.is_empty.result c.is_empty.ensures c.if-is_empty.true) ∙ c.handlers-handlers.ensures)
     (goes-none Nothing c.args.table.now)
 
 pub returns : goal.returns
