@@ -1,7 +1,7 @@
 -- The table settles label by label, and is then the most defined good assignment.
-use Rattle.std.proofs.Common.{◌≡◌, ◌<◌, ◌≤◌, ℕ, suc, ◌+◌, ◌*◌, Bool, true, false, cond, nat_eq, nat_lt, ◌&&◌, ◌||◌, List, [], ◌∷◌, map, length, Option, None, Some, refl, sym, ap, subst, ◌∙◌, arith}
-use Rattle.std.specs.Prelude.{if◌then◌else◌, is_some, option_map}
-use Rattle.std.specs.List.{sum_by, list_any}
+use Rattle.std.proofs.Common.{◌≡◌, ◌<◌, ◌≤◌, ℕ, zero, suc, ◌+◌, ◌*◌, Bool, true, false, cond, nat_eq, nat_lt, ◌&&◌, ◌||◌, List, [], ◌∷◌, ◌++◌, not, map, get_or, length, Option, None, Some, refl, sym, ap, subst, ◌∙◌, arith, append-nil}
+use Rattle.std.specs.Prelude.{if◌then◌else◌, is_some, option_map, Result}
+use Rattle.std.specs.List.{sum_by, list_any, flat_map}
 use Rattle.std.specs.Ordering.{nat_cmp}
 use Rattle.std.specs.declared.cmp.Ordering.TheVariants.{Less}
 use Rattle.std.specs.BTreeMap as tree
@@ -11,16 +11,19 @@ use Rattle.std.specs.Map.{lookup, keys_of}
 use Rattle.std.specs.List.Sorted.{IsStrictlySortedBy}
 use Rattle.std.proofs.lemmas.Bool.{true≢false}
 use Rattle.std.proofs.lemmas.Bool.Decides.{nat_tests}
+use Rattle.std.proofs.lemmas.List.{get_or-map}
 use Rattle.std.proofs.lemmas.Map.Made.{is_some-lookup}
 use Rattle.std.proofs.lemmas.Map.Keys.{sorted_head, sorted_tail}
 use Rattle.beam_code.specs.declared.slot_state.SlotMap.{SlotMap}
 use Rattle.beam_code.specs.declared.slot_state.SlotState.{SlotState}
-use Rattle.beam_code.specs.Code.{FunctionCode}
+use Rattle.beam_code.specs.declared.module.Function.{Function}
+use Rattle.beam_code.specs.Code.{FunctionCode, function_code, no_function}
 use Rattle.beam_code.specs.Good.{Assignment, GoesTo, Good, MostDefined, NoneGood, assignment_of, listed_at}
 use Rattle.beam_code.specs.Labels.{is_in, defined_in, no_label_twice}
 use Rattle.beam_code.specs.Opcode.{Opcode}
 use Rattle.beam_code.specs.SlotForm.{rises, rises_from}
 use Rattle.beam_code.specs.Slots.{State, BelowIfReached, entry_state, state_of}
+use Rattle.slot_kinds.specs.declared.fault.SlotFault.{SlotFault}
 use Rattle.slot_kinds.specs.declared.table.Row.{Row}
 use Rattle.slot_kinds.specs.declared.table.Table.{Table}
 use Rattle.slot_kinds.specs.Segments.{Under, Segment, behind}
@@ -28,6 +31,7 @@ use Rattle.slot_kinds.specs.Tables.{state_in, held, places, is_pending, row_rank
 use Rattle.slot_kinds.specs.Rows.{IsFresh}
 use Rattle.slot_kinds.specs.Walks.{KeepsFrom, KeepsEach}
 use Rattle.slot_kinds.specs.Settles.{IsQuiet, SettlesTo, entry_of, IsBest}
+use Rattle.slot_kinds.proofs.GoesLaw.{goes-none, goes-end, Outcome}
 use Rattle.slot_kinds.proofs.SegmentLaw.{under-same, under-under, segment-none, segment-more, segment-below, segment-behind, good-from}
 
 at-same : (l q : ℕ) → tree.is_at (nat_cmp l) q ≡ true → l ≡ q
@@ -126,6 +130,14 @@ listed-keys (e ∷ es) l =
 less-is : (m n : ℕ) → nat_cmp m n ≡ Less → nat_lt m n ≡ true
 less-is m n h = grind (arith, nat_tests)
 
+and-left : (a b : Bool) → (a && b) ≡ true → a ≡ true
+and-left true b h = refl
+and-left false b h = h
+
+and-right : (a b : Bool) → (a && b) ≡ true → b ≡ true
+and-right true b h = h
+and-right false b h = absurd (true≢false (sym h))
+
 and-both : (a b : Bool) → a ≡ true → b ≡ true → (a && b) ≡ true
 and-both true b p q = q
 and-both false b p q = p
@@ -156,3 +168,66 @@ is-best f t u v m d fresh g s e is = record {
   lists = λ l. ap (λ es. is_in (map (λ (e : ℕ × Option SlotState). e.0) es) l) is ∙ listed-keys v.rows.entries l ∙ sym (is_some-lookup (tree.is_at (nat_cmp l)) v.rows.entries)
       ∙ sym (same-some (tree.get nat_cmp v.rows l)) ∙ ap (λ p. is_some (p l)) (s.stays ∙ g.stays) ∙ fresh.are.defined l;
 }
+
+-- a label that is not reached needs nothing
+pub idle : (code : List Opcode) (t : Table) (label : ℕ) → held t label ≡ None → Goes (KeepsFrom code (held t label)) Nothing t t
+idle code t label e =
+    goes-end (KeepsFrom code (held t label)) (KeepsFrom code (held t label)) t t (λ at. subst (Segment at code) (sym e) (segment-none at code)) (goes-none (KeepsFrom code (held t label)) t)
+
+pub no-row : (t : Table) (label : ℕ) → tree.get nat_cmp t.rows label ≡ None → held t label ≡ None
+no-row t label e = ap state_in e
+
+pub no-state : (t : Table) (label : ℕ) (row : Row) → tree.get nat_cmp t.rows label ≡ Some row → row.state ≡ None → held t label ≡ None
+no-state t label row e s = ap state_in e ∙ ap (option_map state_of) s
+
+pub a-state : (t : Table) (label : ℕ) (row : Row) (s : SlotState) → tree.get nat_cmp t.rows label ≡ Some row → row.state ≡ Some s → held t label ≡ Some (state_of s)
+a-state t label row s e i = ap state_in e ∙ ap (option_map state_of) i
+
+pub place-of : (t : Table) (label : ℕ) (row : Row) → tree.get nat_cmp t.rows label ≡ Some row → places t label ≡ Some row.place
+place-of t label row e = ap (option_map (λ (row : Row). row.place)) e
+
+pub walked : (code rest : List Opcode) (a b : Table) (label : ℕ) (s : State) (r : Result (Unit {0}) SlotFault) → rest ≡ behind label code → held a label ≡ Some s → Outcome (KeepsFrom rest (Some s)) a b r
+    → Outcome (KeepsFrom (behind label code) (held a label)) a b r
+walked code rest a b label s r e h o = subst (λ q. Outcome (KeepsFrom (behind label code) q) a b r) (sym h) (subst (λ q. Outcome (KeepsFrom q (Some s)) a b r) e o)
+
+-- Labels of one function.
+
+twice-left : (xs ys : List ℕ) → no_label_twice (xs ++ ys) ≡ true → no_label_twice xs ≡ true
+twice-left [] ys h = refl
+twice-left (x ∷ xs) ys h = and-both _ _ (fewer (list_any (nat_eq x) xs) (list_any (nat_eq x) ys) (list_any (nat_eq x) (xs ++ ys)) (any-append xs) (and-left _ _ h)) (twice-left xs ys (and-right _ _ h))
+  where
+    or-assoc : (a b c : Bool) → (a || (b || c)) ≡ ((a || b) || c)
+    or-assoc true b c = refl
+    or-assoc false b c = refl
+    any-append : (zs : List ℕ) → list_any (nat_eq x) (zs ++ ys) ≡ (list_any (nat_eq x) zs || list_any (nat_eq x) ys)
+    any-append [] = refl
+    any-append (z ∷ zs) = ap (λ b. nat_eq x z || b) (any-append zs) ∙ or-assoc (nat_eq x z) (list_any (nat_eq x) zs) (list_any (nat_eq x) ys)
+    fewer : (a b c : Bool) → c ≡ (a || b) → not c ≡ true → not a ≡ true
+    fewer true b c e h = ap not (sym e) ∙ h
+    fewer false b c e h = refl
+
+twice-right : (xs ys : List ℕ) → no_label_twice (xs ++ ys) ≡ true → no_label_twice ys ≡ true
+twice-right [] ys h = h
+twice-right (x ∷ xs) ys h = twice-right xs ys (and-right _ _ h)
+
+pub distinct-at : (fs : List FunctionCode) (i : ℕ) (d : FunctionCode) → i < length fs → no_label_twice (flat_map (λ (f : FunctionCode). defined_in f.code) fs) ≡ true → no_label_twice (defined_in (get_or fs i d).code) ≡ true
+distinct-at [] i d h t = absurd (omega arith)
+distinct-at (f ∷ fs) zero d h t = twice-left (defined_in f.code) (flat_map (λ (f : FunctionCode). defined_in f.code) fs) t
+distinct-at (f ∷ fs) (suc i) d h t = distinct-at fs i d (omega arith) (twice-right (defined_in f.code) (flat_map (λ (f : FunctionCode). defined_in f.code) fs) t)
+
+-- all rows are taken
+pub drained : (at : List (ℕ × Option SlotState)) (es all : List (ℕ × Row)) → (0 < length es → ⊥) → at ++ map entry_of es ≡ map entry_of all → at ≡ map entry_of all
+drained at [] all h e = sym (append-nil at) ∙ e
+drained at (x ∷ es) all h e = absurd (h (omega arith))
+
+-- no label is left
+pub settle-end : (code : List Opcode) (a t : Table) (pending : BTreeSet ℕ) → SettlesTo code a t → pending.keys ≡ t.pending.keys → (0 < length t.pending.keys → ⊥) → SettlesTo code a (popped t pending) × (pending.keys ≡ [])
+settle-end code a t pending s e h = (record { stays = s.stays; rises = s.rises; least = s.least; quiet = λ l q. s.quiet l (ap (list_any (tree.is_at (nat_cmp l))) (sym e) ∙ q) }, e ∙ none t.pending.keys h)
+  where
+    none : (ks : List ℕ) → (0 < length ks → ⊥) → ks ≡ []
+    none [] h = refl
+    none (k ∷ ks) h = absurd (h (omega arith))
+
+-- the function of a number
+pub function-is : (fs : List Function) (i : ℕ) (f : Function) → i < length fs → f ≡ get_or fs i f → get_or (map function_code fs) i no_function ≡ function_code f
+function-is fs i f h e = get_or-map function_code fs i f no_function h ∙ ap function_code (sym e)

@@ -1,6 +1,6 @@
 //! The most defined good assignment: states of labels rise until each way of control from each of them is kept.
 
-ghost use Rattle.std.specs.Prelude.{◌≡◌, ◌<◌, true, length, map};
+ghost use Rattle.std.specs.Prelude.{◌≡◌, ◌<◌, true, [], length, map};
 ghost use Rattle.beam_code.specs.Code.{function_at, function_code, module_code, opcode as opcode_of};
 ghost use Rattle.beam_code.specs.Good.{NoneGood};
 ghost use Rattle.beam_code.specs.Labels.{KeepsLabelRules, defined_in, no_label_twice};
