@@ -1,13 +1,12 @@
 -- Steps from table to table, one behind another.
-use Rattle.std.proofs.Common.{◌≡◌, ◌≤◌, ℕ, Bool, true, false, List, Option, None, Some, refl, sym, ap, subst, ◌∙◌, arith}
+use Rattle.std.proofs.Common.{refl, ◌∙◌, arith}
 use Rattle.std.specs.Prelude.{Result, Ok, Err}
 use Rattle.beam_code.specs.Good.{Assignment}
 use Rattle.slot_kinds.specs.declared.fault.SlotFault.{SlotFault}
 use Rattle.slot_kinds.specs.declared.fault.SlotFault.TheVariants.{NotSlotted, NoMemory}
 use Rattle.slot_kinds.specs.Answer.{Answers}
 use Rattle.slot_kinds.specs.declared.table.Table.{Table}
-use Rattle.slot_kinds.specs.Segments.{Under}
-use Rattle.slot_kinds.specs.Tables.{held, places, is_pending, work, Owed, Nothing, Goes, Refuses}
+use Rattle.slot_kinds.specs.Tables.{held, Owed, Nothing, Goes, Refuses}
 use Rattle.slot_kinds.proofs.SegmentLaw.{under-same, under-under}
 
 pub goes-none : (p : Owed) (t : Table) → Goes p p t t

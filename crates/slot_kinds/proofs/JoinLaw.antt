@@ -1,5 +1,5 @@
 -- The join of two kinds, of two lists of kinds, and of two states.
-use Rattle.std.proofs.Common.{◌≡◌, ◌<◌, ◌≤◌, ℕ, zero, suc, ◌+◌, ◌-◌, ◌*◌, ◌^◌, Bool, true, false, ◌&&◌, ◌||◌, List, [], ◌∷◌, ◌++◌, take, drop, length, get_or, Option, None, Some, refl, sym, ap, subst, ◌∙◌, arith, inl, inr, lit≤, suc-mul}
+use Rattle.std.proofs.Common.{◌≡◌, ◌<◌, ◌≤◌, ℕ, zero, suc, ◌+◌, ◌-◌, ◌*◌, ◌^◌, Bool, true, false, ◌&&◌, ◌||◌, List, [], ◌∷◌, ◌++◌, take, length, Option, None, Some, refl, sym, ap, subst, ◌∙◌, arith, inl, inr, lit≤, suc-mul}
 use Rattle.std.specs.Prelude.{if◌then◌else◌, max, ◌⊎◌}
 use borrow.Author.Count.{below_more}
 use Rattle.std.proofs.lemmas.List.{get_or_append_left, get_or_push, get_or_past, take_more, take_all, length_push}
@@ -14,9 +14,9 @@ use Rattle.beam_code.specs.declared.kind.Kind.TheVariants as k
 use Rattle.beam_code.specs.Flow.{is_tag}
 use Rattle.beam_code.specs.Labels.{is_in}
 use Rattle.beam_code.specs.SlotForm.{rises, is_kind, is_size}
-use Rattle.beam_code.specs.Slots.{State, Below, below_kind, listed, state_of}
-use Rattle.beam_code.proofs.BelowLaw.{all-in, in-all, or-right, below-refl}
-use Rattle.slot_kinds.specs.Unions.{union, Grows, IsUnited}
+use Rattle.beam_code.specs.Slots.{State, below_kind, listed, state_of}
+use Rattle.beam_code.proofs.BelowLaw.{all-in, in-all, or-right}
+use Rattle.slot_kinds.specs.Unions.{Grows, IsUnited}
 use Rattle.slot_kinds.specs.Joins.{IsJoinKind, NoJoinKind, rank, bit, meeting, changes, IsMet, AreMetTo, AreMet, Clash, IsJoin, NoJoin, JoinsTo, rank_of}
 use Rattle.slot_kinds.proofs.UnionLaw.{in-union, union-rises}
 
@@ -75,6 +75,7 @@ met-plain a b c changed ta tb e t = subst (λ x. IsMet a b x changed) (sym e) (s
     stays k.Trace k.Trace t e = refl
     stays k.Marker k.Marker t e = refl
     stays a b t e = cc
+
     forms : (a b : Kind) → is_kind (meeting a b) ≡ true
     forms k.Term k.Term = refl
     forms k.Term k.OptTerm = refl
@@ -83,6 +84,7 @@ met-plain a b c changed ta tb e t = subst (λ x. IsMet a b x changed) (sym e) (s
     forms k.Trace k.Trace = refl
     forms k.Marker k.Marker = refl
     forms a b = refl
+
     joins : (a b : Kind) → is_tag a ≡ false → is_tag b ≡ false → IsJoinKind a b (meeting a b)
     joins k.Term k.Term ta tb = record { one = refl; other = refl; least = λ d p q. p }
     joins k.Term k.OptTerm ta tb = record { one = refl; other = refl; least = λ d p q. q }
@@ -120,15 +122,19 @@ met-tags labels others all grew small u = record {
   where
     is : (n : ℕ) → is_in all n ≡ (is_in labels n || is_in others n)
     is n = ap (λ l. is_in l n) u.is ∙ in-union labels others n
+
     or-either : (a b c : Bool) → (a ≡ true → c ≡ true) → (b ≡ true → c ≡ true) → (a || b) ≡ true → c ≡ true
     or-either true b c f g h = f refl
     or-either false b c f g h = g h
+
     above : (d : Kind) → below_kind (k.Tag labels) d ≡ true → below_kind (k.Tag others) d ≡ true → below_kind (k.Tag all) d ≡ true
     above (k.Tag many) p q =
         in-all many all (λ n i. or-either (is_in labels n) (is_in others n) (is_in many n) (all-in many labels p n) (all-in many others q n) (sym (is n) ∙ i))
     above d p q = p
+
     same : grew ≡ false → all ≡ labels
     same e = subst (λ g. Grows g labels all) e u.grows
+
     lower : (g : Bool) → Grows g labels all → rank (k.Tag all) + bit g ≤ rank (k.Tag labels)
     lower true g = shift-bound (2 ^ 64) (length all) (length labels) g small
     lower false g = subst (λ l. (2 ^ 64 - length all) + 0 ≤ 2 ^ 64 - length l) g (omega arith)
@@ -165,6 +171,7 @@ sum-take a at = elim (le-or-lt (length a) at) [ inl p ↦ past p | inr q ↦ wit
     past : length a ≤ at → sum_by rank (take (at + 1) a) ≡ sum_by rank (take at a) + rank (listed a at)
     past p =
         ap (sum_by rank) (take_all (at + 1) a (omega arith) ∙ sym (take_all at a p)) ∙ (omega arith) ∙ ap (λ kind. sum_by rank (take at a) + rank kind) (sym (get_or_past a at k.Undefined p))
+
     within : at < length a → sum_by rank (take (at + 1) a) ≡ sum_by rank (take at a) + rank (listed a at)
     within q = ap (sum_by rank) (take_more a at k.Undefined q) ∙ sum_by_push rank (take at a) (listed a at)
 
@@ -202,13 +209,17 @@ met-all at a b c changed h e = record {
   where
     end-a : (n : ℕ) → at ≤ n → listed a n ≡ k.Undefined
     end-a n p = get_or_past a n k.Undefined (omega (arith, e))
+
     end-b : (n : ℕ) → at ≤ n → listed b n ≡ k.Undefined
     end-b n p = get_or_past b n k.Undefined (omega (arith, e))
+
     end-c : (n : ℕ) → at ≤ n → listed c n ≡ k.Undefined
     end-c n p = get_or_past c n k.Undefined (omega (arith, h.long))
+
     past : (n : ℕ) → at ≤ n → IsJoinKind (listed a n) (listed b n) (listed c n)
     past n p =
         subst (λ x. IsJoinKind x (listed b n) (listed c n)) (sym (end-a n p)) (subst (λ x. IsJoinKind k.Undefined x (listed c n)) (sym (end-b n p)) (subst (IsJoinKind k.Undefined k.Undefined) (sym (end-c n p)) (to-top k.Undefined k.Undefined refl refl refl)))
+
     past-below : (n : ℕ) → at ≤ n → below_kind (listed b n) (listed a n) ≡ true
     past-below n p = subst (λ x. below_kind x (listed a n) ≡ true) (sym (end-b n p)) (subst (λ x. below_kind k.Undefined x ≡ true) (sym (end-a n p)) refl)
 
@@ -243,9 +254,10 @@ join-of s t xs ys cx cy e x y = record {
 -- one of them did
 pub rises-to : (s t u : SlotState) (xs ys : List Kind) (cx cy : Bool) → s.frame ≡ t.frame → AreMet s.xs t.xs xs cx → AreMet s.ys t.ys ys cy → 1 ≤ bit cx + bit cy
     → state_of u ≡ record { frame = s.frame; xs = listed xs; ys = listed ys } → IsFront u.xs xs → u.ys ≡ ys → JoinsTo s t (Some u)
-rises-to s t u xs ys cx cy e x y c is front same =
-    (subst (IsJoin (state_of s) (state_of t)) (sym is) (join-of s t xs ys cx cy e x y),
-    omega (arith, x.falls, y.falls, c, ap (sum_by rank) same, ap (sum_by rank) front.1, sum_by-append rank u.xs front.0))
+rises-to s t u xs ys cx cy e x y c is front same = (
+  subst (IsJoin (state_of s) (state_of t)) (sym is) (join-of s t xs ys cx cy e x y),
+  omega (arith, x.falls, y.falls, c, ap (sum_by rank) same, ap (sum_by rank) front.1, sum_by-append rank u.xs front.0),
+)
 
 -- the same where the lists are given by other names
 pub rises-from : (s t u : SlotState) (ax bx ay by xs ys : List Kind) (cx cy : Bool) → ax ≡ s.xs → bx ≡ t.xs → ay ≡ s.ys → by ≡ t.ys → s.frame ≡ t.frame → AreMet ax bx xs cx → AreMet ay by ys cy → 1 ≤ bit cx + bit cy

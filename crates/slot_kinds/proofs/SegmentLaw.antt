@@ -1,14 +1,14 @@
 -- A good assignment keeps the segment behind each label, and an assignment that keeps each is good.
 use Rattle.std.proofs.Common.{◌≡◌, ℕ, Bool, true, false, not, nat_eq, ◌&&◌, ◌||◌, List, [], ◌∷◌, Option, None, Some, inl, inr, refl, sym, ap, subst, ◌∙◌, arith}
-use Rattle.std.specs.Prelude.{if◌then◌else◌, ◌⊎◌}
+use Rattle.std.specs.Prelude.{if◌then◌else◌}
 use Rattle.std.specs.Cmp.{nat_eq_equiv}
 use Rattle.std.proofs.lemmas.Bool.{true≢false}
 use Rattle.std.proofs.lemmas.Bool.Decides.{nat_tests}
 use Rattle.beam_code.specs.Code.{FunctionCode}
 use Rattle.beam_code.specs.Flow.{Way, Flow, flow}
-use Rattle.beam_code.specs.FlowLaw.{IsCovered, AreCovered, BelowFlow, BelowRow}
+use Rattle.beam_code.specs.FlowLaw.{IsCovered, AreCovered, BelowRow}
 use Rattle.beam_code.specs.Good.{Assignment, GoesTo, GoToEach, Onward, Step, Walk, Good}
-use Rattle.beam_code.specs.Labels.{is_in, defined_by, defined_in, is_that, no_label_twice}
+use Rattle.beam_code.specs.Labels.{is_in, defined_in, no_label_twice}
 use Rattle.beam_code.specs.Opcode.{Opcode, Label}
 use Rattle.beam_code.specs.Slots.{State, Below, BelowIfReached, entry_state}
 use Rattle.beam_code.proofs.BelowLaw.{below-same, reached-below, or-right}

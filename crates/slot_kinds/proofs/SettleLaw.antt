@@ -1,7 +1,7 @@
 -- The table settles label by label, and is then the most defined good assignment.
-use Rattle.std.proofs.Common.{◌≡◌, ◌<◌, ◌≤◌, ℕ, zero, suc, ◌+◌, ◌*◌, Bool, true, false, cond, nat_eq, nat_lt, ◌&&◌, ◌||◌, List, [], ◌∷◌, ◌++◌, not, map, get_or, length, Option, None, Some, refl, sym, ap, subst, ◌∙◌, arith, append-nil}
+use Rattle.std.proofs.Common.{◌≡◌, ◌<◌, ◌≤◌, ℕ, zero, suc, Bool, true, false, cond, nat_eq, nat_lt, ◌&&◌, ◌||◌, List, [], ◌∷◌, ◌++◌, not, map, get_or, length, Option, None, Some, refl, sym, ap, subst, ◌∙◌, arith, append-nil}
 use Rattle.std.specs.Prelude.{if◌then◌else◌, is_some, option_map, Result}
-use Rattle.std.specs.List.{sum_by, list_any, flat_map}
+use Rattle.std.specs.List.{list_any, flat_map}
 use Rattle.std.specs.Ordering.{nat_cmp}
 use Rattle.std.specs.declared.cmp.Ordering.TheVariants.{Less}
 use Rattle.std.specs.BTreeMap as tree
@@ -18,7 +18,7 @@ use Rattle.beam_code.specs.declared.slot_state.SlotMap.{SlotMap}
 use Rattle.beam_code.specs.declared.slot_state.SlotState.{SlotState}
 use Rattle.beam_code.specs.declared.module.Function.{Function}
 use Rattle.beam_code.specs.Code.{FunctionCode, function_code, no_function}
-use Rattle.beam_code.specs.Good.{Assignment, GoesTo, Good, MostDefined, NoneGood, assignment_of, listed_at}
+use Rattle.beam_code.specs.Good.{Assignment, GoesTo, MostDefined, NoneGood, assignment_of, listed_at}
 use Rattle.beam_code.specs.Labels.{is_in, defined_in, no_label_twice}
 use Rattle.beam_code.specs.Opcode.{Opcode}
 use Rattle.beam_code.specs.SlotForm.{rises, rises_from}
@@ -27,7 +27,7 @@ use Rattle.slot_kinds.specs.declared.fault.SlotFault.{SlotFault}
 use Rattle.slot_kinds.specs.declared.table.Row.{Row}
 use Rattle.slot_kinds.specs.declared.table.Table.{Table}
 use Rattle.slot_kinds.specs.Segments.{Under, Segment, behind}
-use Rattle.slot_kinds.specs.Tables.{state_in, held, places, is_pending, row_rank, work, Nothing, Goes, Refuses, ArePlaces}
+use Rattle.slot_kinds.specs.Tables.{state_in, held, places, is_pending, work, Nothing, Goes, Refuses, ArePlaces}
 use Rattle.slot_kinds.specs.Rows.{IsFresh}
 use Rattle.slot_kinds.specs.Walks.{KeepsFrom, KeepsEach}
 use Rattle.slot_kinds.specs.Settles.{IsQuiet, SettlesTo, entry_of, IsBest}
@@ -199,9 +199,11 @@ twice-left (x ∷ xs) ys h = and-both _ _ (fewer (list_any (nat_eq x) xs) (list_
     or-assoc : (a b c : Bool) → (a || (b || c)) ≡ ((a || b) || c)
     or-assoc true b c = refl
     or-assoc false b c = refl
+
     any-append : (zs : List ℕ) → list_any (nat_eq x) (zs ++ ys) ≡ (list_any (nat_eq x) zs || list_any (nat_eq x) ys)
     any-append [] = refl
     any-append (z ∷ zs) = ap (λ b. nat_eq x z || b) (any-append zs) ∙ or-assoc (nat_eq x z) (list_any (nat_eq x) zs) (list_any (nat_eq x) ys)
+
     fewer : (a b c : Bool) → c ≡ (a || b) → not c ≡ true → not a ≡ true
     fewer true b c e h = ap not (sym e) ∙ h
     fewer false b c e h = refl

@@ -1,12 +1,11 @@
 -- How the table of labels is made, and how the state of a label rises in it.
-use Rattle.std.proofs.Common.{◌≡◌, ◌<◌, ◌≤◌, ℕ, zero, suc, ◌+◌, ◌*◌, ◌^◌, Bool, true, false, cond, nat_eq, ◌||◌, List, [], ◌∷◌, ◌++◌, take, drop, map, length, get_or, Option, None, Some, inl, inr, refl, sym, ap, subst, ◌∙◌, arith, add-one}
-use Rattle.std.specs.Prelude.{if◌then◌else◌, is_some, ◌⊎◌, option_map, unwrap_or}
+use Rattle.std.proofs.Common.{◌≡◌, ◌<◌, ◌≤◌, ℕ, zero, suc, ◌+◌, ◌*◌, Bool, true, false, cond, nat_eq, ◌||◌, List, [], ◌∷◌, ◌++◌, take, drop, map, length, get_or, Option, None, Some, refl, sym, ap, subst, ◌∙◌, arith, add-one}
+use Rattle.std.specs.Prelude.{if◌then◌else◌, is_some, option_map, unwrap_or}
 use Rattle.std.specs.Option.{option_or}
-use Rattle.std.specs.List.{filter_map, sum_by}
+use Rattle.std.specs.List.{sum_by}
 use Rattle.std.specs.Ordering.{nat_cmp}
-use Rattle.std.specs.Cmp.{nat_eq_equiv, nat_cmp_total}
+use Rattle.std.specs.Cmp.{nat_cmp_total}
 use Rattle.std.specs.BTreeMap as tree
-use Rattle.std.specs.BTreeSet as set
 use Rattle.std.specs.Map.{values_of}
 use Rattle.std.proofs.lemmas.Bool.{true≢false}
 use Rattle.std.proofs.lemmas.Bool.Decides.{nat_tests}
@@ -22,9 +21,9 @@ use Rattle.beam_code.specs.Slots.{State, Below, BelowIfReached, state_of}
 use Rattle.beam_code.proofs.BelowLaw.{below-same, below-below, reached-below}
 use Rattle.slot_kinds.specs.declared.table.Row.{Row}
 use Rattle.slot_kinds.specs.declared.table.Table.{Table}
-use Rattle.slot_kinds.specs.Joins.{rank_of, JoinsTo, NoJoin}
+use Rattle.slot_kinds.specs.Joins.{rank_of}
 use Rattle.slot_kinds.specs.Segments.{Under, behind}
-use Rattle.slot_kinds.specs.Tables.{state_in, held, places, is_pending, state_rank, row_rank, work, Nothing, Goes, Refuses, ArePlaces}
+use Rattle.slot_kinds.specs.Tables.{state_in, held, places, is_pending, state_rank, row_rank, Nothing, Goes, Refuses}
 use Rattle.slot_kinds.specs.Rows.{fresh, fresh_if, Defines, IsRow, AreRows, IsFresh, RisesTo, NoRise, Raises}
 use Rattle.slot_kinds.proofs.SegmentLaw.{under-same, reached-same}
 
@@ -111,9 +110,11 @@ rows-fresh code t r e = record {
     same : (o : Option Row) → is_some (option_map (λ (row : Row). row.place) o) ≡ is_some o
     same None = refl
     same (Some row) = refl
+
     elim-place : (l p : ℕ) (P : ℕ → Type 0) → ((row : Row) → IsRow code l row → P row.place) → (o : Option Row) → tree.get nat_cmp t.rows l ≡ o → option_map (λ (row : Row). row.place) o ≡ Some p → P p
     elim-place l p P f None h g = absurd (let e : None ≡ Some p = g in cc)
     elim-place l p P f (Some row) h g = let e : row.place ≡ p = cc in subst P e (f row (r.each l row h))
+
     none : (l : ℕ) (o : Option Row) → tree.get nat_cmp t.rows l ≡ o → state_in o ≡ None
     none l None h = refl
     none l (Some row) h = ap (option_map state_of) (r.each l row h).fresh
@@ -188,32 +189,40 @@ raise-goes a b label row s u e h r = record {
   kept = λ l p. same l (tree.is_at (nat_cmp label) l) refl p;
   works = less-work _ _ (row_rank row) (rank_of u) _ _
       (ap (λ es. sum_by row_rank (values_of es) + row_rank row) r.entries
-        ∙ ap (λ o. sum_by row_rank (values_of (tree.insert_entry nat_cmp a.rows.entries label (record { place = row.place; state = Some u }))) + unwrap_or (option_map row_rank o) 0) (sym e)
-        ∙ sum_by-insert_entry row_rank nat_cmp_total a.rows.entries label (record { place = row.place; state = Some u }) r.ordered)
+      ∙ ap (λ o. sum_by row_rank (values_of (tree.insert_entry nat_cmp a.rows.entries label (record { place = row.place; state = Some u }))) + unwrap_or (option_map row_rank o) 0) (sym e)
+      ∙ sum_by-insert_entry row_rank nat_cmp_total a.rows.entries label (record { place = row.place; state = Some u }) r.ordered)
       (rise-rank row.state s u h) r.few;
 }
   where
     now : (q : ℕ) → held b q ≡ cond (tree.is_at (nat_cmp label) q) (Some (state_of u)) (held a q)
     now q = ap state_in (r.rows.0 q) ∙ in-cond (tree.is_at (nat_cmp label) q) (Some (record { place = row.place; state = Some u })) (tree.get nat_cmp a.rows q)
+
     was : held a label ≡ option_map state_of row.state
     was = ap state_in e
+
     here : (q : ℕ) → tree.is_at (nat_cmp label) q ≡ true → held b q ≡ Some (state_of u)
     here q t = now q ∙ ap (λ c. cond c (Some (state_of u)) (held a q)) t
+
     away : (q : ℕ) → tree.is_at (nat_cmp label) q ≡ false → held b q ≡ held a q
     away q t = now q ∙ ap (λ c. cond c (Some (state_of u)) (held a q)) t
+
     up : (q : ℕ) (c : Bool) → tree.is_at (nat_cmp label) q ≡ c → BelowIfReached (held a q) (cond c (Some (state_of u)) (held a q))
     up q true t = subst (λ l. BelowIfReached (held a l) (Some (state_of u))) (at-same label q t) (subst (λ x. BelowIfReached x (Some (state_of u))) (sym was) (rise-below row.state s u h))
     up q false t = reached-same (held a q)
+
     low : (at : Assignment) → Under (held a) at → GoesTo at (label, state_of s) → (q : ℕ) (c : Bool) → tree.is_at (nat_cmp label) q ≡ c → BelowIfReached (cond c (Some (state_of u)) (held a q)) (at q)
     low at v o q true t =
         subst (λ l. BelowIfReached (Some (state_of u)) (at l)) (at-same label q t) (rise-least row.state s u h (at label) (subst (λ x. BelowIfReached x (at label)) was (v label)) o)
     low at v o q false t = v q
+
     quiet : (l : ℕ) (c : Bool) → tree.is_at (nat_cmp label) l ≡ c → is_pending b l ≡ false → is_pending a l ≡ false
     quiet l true t p = absurd (true≢false (ap (λ c. cond c true (is_pending a l)) (sym t) ∙ sym (r.pending.0 l) ∙ p))
     quiet l false t p = ap (λ c. cond c true (is_pending a l)) (sym t) ∙ sym (r.pending.0 l) ∙ p
+
     same : (l : ℕ) (c : Bool) → tree.is_at (nat_cmp label) l ≡ c → is_pending b l ≡ false → held b l ≡ held a l
     same l true t p = absurd (true≢false (ap (λ c. cond c true (is_pending a l)) (sym t) ∙ sym (r.pending.0 l) ∙ p))
     same l false t p = away l t
+
     shape : (l : ℕ) (c : Bool) → tree.is_at (nat_cmp label) l ≡ c → places b l ≡ places a l
     shape l true t =
         ap (λ o. option_map (λ (row : Row). row.place) o) (r.rows.0 l ∙ ap (λ c. cond c (Some (record { place = row.place; state = Some u })) (tree.get nat_cmp a.rows l)) t)

@@ -1,10 +1,10 @@
 -- Labels are reached one by one, and instructions are passed one by one.
-use Rattle.std.proofs.Common.{◌≡◌, ◌<◌, ◌≤◌, ℕ, ◌+◌, Bool, true, false, List, [], ◌∷◌, map, drop, length, get_or, Option, None, Some, refl, sym, ap, subst, ◌∙◌, arith}
+use Rattle.std.proofs.Common.{◌≡◌, ◌<◌, ◌≤◌, ℕ, ◌+◌, Bool, true, false, List, [], ◌∷◌, drop, length, get_or, Option, None, Some, sym, ap, subst, ◌∙◌, arith}
 use Rattle.std.specs.Prelude.{if◌then◌else◌, ◌==◌, Result}
 use Rattle.std.proofs.lemmas.Bool.Decides.{nat_tests}
 use Rattle.std.proofs.lemmas.List.{drop_more, drop_all, nil_from_length}
-use Rattle.beam_code.specs.Flow.{Way, Flow, flow, all_ways, raised_from}
-use Rattle.beam_code.specs.FlowParts.{allows, entered, left, parts, labels_gone}
+use Rattle.beam_code.specs.Flow.{Flow, flow}
+use Rattle.beam_code.specs.FlowParts.{allows, entered, left, parts}
 use Rattle.beam_code.specs.Good.{Assignment, GoesTo, GoToEach, Onward}
 use Rattle.beam_code.specs.Labels.{defined_by}
 use Rattle.beam_code.specs.Opcode.{Opcode, Label, Line}
@@ -12,10 +12,10 @@ use Rattle.beam_code.specs.Slots.{State}
 use Rattle.beam_code.proofs.FlowPartsLaw.{flow-parts}
 use Rattle.slot_kinds.specs.declared.fault.SlotFault.{SlotFault}
 use Rattle.slot_kinds.specs.declared.table.Table.{Table}
-use Rattle.slot_kinds.specs.Segments.{Under, Segment, SegmentStep}
-use Rattle.slot_kinds.specs.Tables.{held, Owed, Nothing, Goes, Refuses}
+use Rattle.slot_kinds.specs.Segments.{Segment, SegmentStep}
+use Rattle.slot_kinds.specs.Tables.{Nothing, Goes, Refuses}
 use Rattle.slot_kinds.specs.Walks.{ReachesEach, ReachesAll, GoesOn, Passes, KeepsFrom}
-use Rattle.slot_kinds.proofs.GoesLaw.{goes-none, goes-then, goes-first, goes-as, refuses-then, refuses-as, goes-end, Outcome, outcome-then}
+use Rattle.slot_kinds.proofs.GoesLaw.{goes-then, goes-first, goes-as, refuses-then, refuses-as, goes-end, Outcome, outcome-then}
 use Rattle.slot_kinds.proofs.SegmentLaw.{segment-none}
 
 -- Labels.

@@ -1,5 +1,5 @@
 -- The least kind, and the least state, that two are below; and how far a state can still rise.
-use Rattle.std.specs.Prelude.{◌≡◌, ◌<◌, ◌≤◌, ℕ, ◌+◌, ◌-◌, ◌^◌, Bool, true, false, if◌then◌else◌, max, List, length, take, Option, None, Some}
+use Rattle.std.specs.Prelude.{◌≡◌, ◌<◌, ◌≤◌, ℕ, ◌+◌, ◌-◌, ◌^◌, Bool, true, false, max, List, length, take, Option, None, Some}
 use Rattle.std.specs.List.{list_all, sum_by}
 use Rattle.beam_code.specs.declared.kind.Kind.{Kind}
 use Rattle.beam_code.specs.declared.kind.Kind.TheVariants as k

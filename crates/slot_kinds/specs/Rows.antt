@@ -1,5 +1,5 @@
 -- The rows of a table: how they are made, and how the state of one rises.
-use Rattle.std.specs.Prelude.{◌≡◌, ◌≤◌, ◌<◌, ℕ, ◌+◌, ◌^◌, Bool, true, false, if◌then◌else◌, List, [], ◌∷◌, length, drop, take, Option, None, Some, is_some}
+use Rattle.std.specs.Prelude.{◌≡◌, ◌≤◌, ◌<◌, ℕ, ◌+◌, ◌^◌, Bool, true, false, List, [], length, drop, take, Option, None, Some, is_some}
 use Rattle.std.specs.Option.{option_or}
 use Rattle.std.specs.Ordering.{nat_cmp}
 use Rattle.std.specs.BTreeMap as map
@@ -7,7 +7,7 @@ use Rattle.std.specs.BTreeSet as set
 use Rattle.beam_code.specs.declared.slot_state.SlotState.{SlotState}
 use Rattle.beam_code.specs.Labels.{is_in, defined_in, defined_by, is_that}
 use Rattle.beam_code.specs.Opcode.{Opcode}
-use Rattle.beam_code.specs.Slots.{State, state_of}
+use Rattle.beam_code.specs.Slots.{state_of}
 use Rattle.slot_kinds.specs.declared.table.Row.{Row}
 use Rattle.slot_kinds.specs.declared.table.Table.{Table}
 use Rattle.slot_kinds.specs.Joins.{rank_of, JoinsTo, NoJoin}

@@ -1,5 +1,5 @@
 -- The table of labels when each label's code is kept, and the slot map that is made of it.
-use Rattle.std.specs.Prelude.{◌≡◌, ℕ, true, false, List, map, Option}
+use Rattle.std.specs.Prelude.{◌≡◌, ℕ, false, List, map, Option}
 use Rattle.beam_code.specs.declared.slot_state.SlotMap.{SlotMap}
 use Rattle.beam_code.specs.declared.slot_state.SlotState.{SlotState}
 use Rattle.beam_code.specs.Code.{FunctionCode}

@@ -1,18 +1,18 @@
 -- The table of a function's labels, as an assignment, and what calls do with it.
-use Rattle.std.specs.Prelude.{◌≡◌, ◌≤◌, ℕ, ◌+◌, ◌*◌, ◌^◌, Bool, true, false, List, [], ◌∷◌, length, drop, Option, None, Some, is_some, option_map}
+use Rattle.std.specs.Prelude.{◌≡◌, ◌≤◌, ℕ, ◌+◌, ◌*◌, ◌^◌, Bool, false, List, length, drop, Option, None, Some, is_some, option_map}
 use Rattle.std.specs.List.{sum_by}
 use Rattle.std.specs.Ordering.{nat_cmp}
 use Rattle.std.specs.BTreeMap.{get, values}
 use Rattle.std.specs.BTreeSet.{contains}
 use Rattle.beam_code.specs.declared.slot_state.SlotState.{SlotState}
-use Rattle.beam_code.specs.Good.{Assignment, GoesTo}
+use Rattle.beam_code.specs.Good.{Assignment}
 use Rattle.beam_code.specs.Labels.{is_in, defined_in}
 use Rattle.beam_code.specs.Opcode.{Opcode}
 use Rattle.beam_code.specs.Slots.{State, state_of}
 use Rattle.slot_kinds.specs.declared.table.Row.{Row}
 use Rattle.slot_kinds.specs.declared.table.Table.{Table}
 use Rattle.slot_kinds.specs.Joins.{rank_of}
-use Rattle.slot_kinds.specs.Segments.{Under, Segment, behind}
+use Rattle.slot_kinds.specs.Segments.{Under, behind}
 
 abbrev pub state_in : Option Row → Option State
 state_in None = None

@@ -1,15 +1,15 @@
 -- What a walk through code does with the table of labels.
-use Rattle.std.specs.Prelude.{◌≡◌, ℕ, true, if◌then◌else◌, List, [], Option, None, Some}
+use Rattle.std.specs.Prelude.{◌≡◌, ℕ, true, if◌then◌else◌, List, [], Option, Some}
 use Rattle.beam_code.specs.Flow.{Flow, flow, all_ways, raised_from}
 use Rattle.beam_code.specs.FlowParts.{labels_gone}
-use Rattle.beam_code.specs.Good.{Assignment, GoToEach, Onward}
+use Rattle.beam_code.specs.Good.{GoToEach, Onward}
 use Rattle.beam_code.specs.Labels.{is_in, defined_in}
 use Rattle.beam_code.specs.Opcode.{Opcode}
 use Rattle.beam_code.specs.Slots.{State}
 use Rattle.beam_code.specs.Weights.{may_raise}
 use Rattle.slot_kinds.specs.declared.table.Table.{Table}
-use Rattle.slot_kinds.specs.Segments.{Under, Segment, behind}
-use Rattle.slot_kinds.specs.Tables.{held, places, is_pending, Owed, Nothing, Goes, Refuses}
+use Rattle.slot_kinds.specs.Segments.{Segment, behind}
+use Rattle.slot_kinds.specs.Tables.{Owed, Nothing, Goes}
 
 -- the labels are reached in that state
 abbrev pub ReachesEach : State → List ℕ → Owed

@@ -48,11 +48,7 @@ fn join_kinds(
     Ok((joined, changed))
 }
 
-fn meet_listed(
-    alloc: Global,
-    kind: Option<&Kind>,
-    other: Option<&Kind>,
-) -> Result<Met, SlotFault>
+fn meet_listed(alloc: Global, kind: Option<&Kind>, other: Option<&Kind>) -> Result<Met, SlotFault>
     ensures { Answers (λ m. IsMet (unwrap_or (option_copied kind.entry) Undefined) (unwrap_or (option_copied other.entry) Undefined) m.kind m.changed) (NoJoinKind (unwrap_or (option_copied kind.entry) Undefined) (unwrap_or (option_copied other.entry) Undefined)) result }
 {
     let undefined = Kind::Undefined;
@@ -67,11 +63,7 @@ fn meet(alloc: Global, kind: &Kind, other: &Kind) -> Result<Met, SlotFault>
     ensures { Answers (λ m. IsMet kind.now other.now m.kind m.changed) (NoJoinKind kind.now other.now) result }
 {
     if let (Kind::Tag(labels), Kind::Tag(others)) = (kind, other) {
-        return Ok(meet_tags(
-            alloc,
-            labels.as_slice(),
-            others.as_slice(),
-        )?);
+        return Ok(meet_tags(alloc, labels.as_slice(), others.as_slice())?);
     }
     if is_tag(kind) {
         return Err(SlotFault::NotSlotted);

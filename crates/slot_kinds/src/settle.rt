@@ -60,12 +60,7 @@ fn settle(alloc: Global, code: &[Instr], table: &mut Table) -> Result<(), SlotFa
 }
 
 // Goes through the code behind a label, if the label is reached.
-fn revisit(
-    alloc: Global,
-    code: &[Instr],
-    table: &mut Table,
-    label: u32,
-) -> Result<(), SlotFault>
+fn revisit(alloc: Global, code: &[Instr], table: &mut Table, label: u32) -> Result<(), SlotFault>
     requires { ArePlaces (map opcode_of code.now) (places table.old) }
     ensures { Answers (λ _. Goes (KeepsFrom (behind label (map opcode_of code.now)) (held table.old label)) Nothing table.old table.new) (Refuses (KeepsFrom (behind label (map opcode_of code.now)) (held table.old label)) table.old) result }
 {

@@ -123,11 +123,7 @@ fn copied(alloc: Global, state: &SlotState) -> Result<SlotState, AllocError>
 }
 
 // A row for the label that the instruction defines, if it is one that has none.
-fn define(
-    rows: &mut BTreeMap<u32, Row>,
-    opcode: Opcode<'_>,
-    place: usize,
-) -> Result<(), AllocError>
+fn define(rows: &mut BTreeMap<u32, Row>, opcode: Opcode<'_>, place: usize) -> Result<(), AllocError>
     ensures { OnOk result (Defines (opcode_seen opcode.entry) place (get nat_cmp rows.old) (get nat_cmp rows.new)) }
 {
     if let Opcode::Label { label } = opcode {

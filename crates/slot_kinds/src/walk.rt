@@ -125,11 +125,7 @@ fn reach_cases(
     Ok(())
 }
 
-fn reach_handlers(
-    alloc: Global,
-    table: &mut Table,
-    state: &SlotState,
-) -> Result<(), SlotFault>
+fn reach_handlers(alloc: Global, table: &mut Table, state: &SlotState) -> Result<(), SlotFault>
     ensures { Answers (λ _. Goes (λ at. GoToEach at (raised_from (state_of state.now))) Nothing table.old table.new) (Refuses (λ at. GoToEach at (raised_from (state_of state.now))) table.old) result }
 {
     let handlers = state.handlers();

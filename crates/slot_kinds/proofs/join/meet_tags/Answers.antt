@@ -1,4 +1,4 @@
-use Rattle.std.proofs.Common.{◌≡◌, ◌≤◌, ◌<◌, ◌^◌, length, arith, subst, sym}
+use Rattle.std.proofs.Common.{subst, sym}
 use Rattle.slot_kinds.specs.Joins.{IsMet}
 use Rattle.slot_kinds.proofs.JoinLaw.{met-tags, few-enough}
 use Rattle.beam_code.specs.declared.kind.Kind.TheVariants.{Tag}

@@ -1,4 +1,4 @@
-use Rattle.std.proofs.Common.{map, sym, subst, ◌∙◌, ap}
+use Rattle.std.proofs.Common.{map, sym, subst}
 use Rattle.std.proofs.lemmas.Bool.{true≢false}
 use Rattle.beam_code.specs.Code.{opcode}
 use Rattle.slot_kinds.specs.Segments.{behind}

@@ -1,4 +1,4 @@
-use Rattle.std.proofs.Common.{◌<◌, ◌^◌, length, subst, sym}
+use Rattle.std.proofs.Common.{◌<◌, ◌^◌, subst}
 use Rattle.slot_kinds.proofs.JoinLaw.{state-bound}
 use Rattle.slot_kinds.proofs.table.copied.Goals as goal
 

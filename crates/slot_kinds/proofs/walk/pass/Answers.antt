@@ -1,5 +1,4 @@
-use Rattle.std.proofs.Common.{◌≡◌, sym, ap, subst, ◌∙◌}
-use Rattle.beam_code.specs.FlowParts.{falls_as}
+use Rattle.std.proofs.Common.{sym, ◌∙◌}
 use Rattle.beam_code.specs.Seen.{opcode_seen}
 use Rattle.beam_code.specs.Slots.{state_of}
 use Rattle.slot_kinds.specs.Tables.{Refuses}

@@ -15,4 +15,4 @@ returns-in-Ok c =
     let gone : labels_gone (opcode_seen c.args.opcode) ≡ c.in-Some.label ∷ cases = sym c.branches_of-branches.ensures ∙ ap (λ first. with_first first cases) c.in-Some.is in
     subst (λ ls. Outcome (ReachesEach (state_of c.args.state.now) ls) c.args.table.now c.reach_cases-in-Ok.new.table c.reach_cases-in-Ok.result) (sym gone)
     (outcome-then (ReachesEach (state_of c.args.state.now) (c.in-Some.label ∷ cases)) (ReachesEach (state_of c.args.state.now) cases) c.args.table.now c.reach.new.self c.reach_cases-in-Ok.new.table c.reach_cases-in-Ok.result
-      (goes-first (λ at. GoesTo at (c.in-Some.label, state_of c.args.state.now)) (ReachesEach (state_of c.args.state.now) cases) c.args.table.now c.reach.new.self c.in-Ok.ensures) c.reach_cases-in-Ok.ensures)
+    (goes-first (λ at. GoesTo at (c.in-Some.label, state_of c.args.state.now)) (ReachesEach (state_of c.args.state.now) cases) c.args.table.now c.reach.new.self c.in-Ok.ensures) c.reach_cases-in-Ok.ensures)

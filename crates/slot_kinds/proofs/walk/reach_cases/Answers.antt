@@ -1,4 +1,4 @@
-use Rattle.std.proofs.Common.{◌≡◌, ◌<◌, ℕ, List, map, length, get_or, arith, sym, ap, subst, ◌∙◌}
+use Rattle.std.proofs.Common.{◌≡◌, ◌<◌, ℕ, List, map, length, get_or, sym, ap, subst, ◌∙◌}
 use Rattle.std.proofs.lemmas.List.{get_or-map, length-map}
 use Rattle.beam_code.specs.declared.operand.Src.{Src}
 use Rattle.beam_code.specs.Good.{GoesTo}
@@ -27,8 +27,8 @@ returns-in-Err c =
     handed-on (Refuses (λ at. GoesTo at (c.loop-label-item.result.1, state_of c.args.state.now)) c.loop-label.table)
     (Refuses (ReachesEach (state_of c.args.state.now) (labels c.args.cases.now)) c.args.table.now) _
     (λ r. each-refused (state_of c.args.state.now) (labels c.args.cases.now) c.loop-label.label-index 0 c.args.table.now c.loop-label.table
-      (within c.args.cases.now c.loop-label.label-index c.loop-label-test.true) c.loop-label.invariant
-      (subst (λ l. Refuses (λ at. GoesTo at (l, state_of c.args.state.now)) c.loop-label.table) (named c.args.cases.now c.loop-label.label-index c.loop-label-item.result c.loop-label-test.true c.loop-label-item.is) r)) c.in-Err.ensures
+    (within c.args.cases.now c.loop-label.label-index c.loop-label-test.true) c.loop-label.invariant
+    (subst (λ l. Refuses (λ at. GoesTo at (l, state_of c.args.state.now)) c.loop-label.table) (named c.args.cases.now c.loop-label.label-index c.loop-label-item.result c.loop-label-test.true c.loop-label-item.is) r)) c.in-Err.ensures
 
 pub loop-label-preserved : goal.loop-label-preserved
 loop-label-preserved c =

@@ -1,4 +1,4 @@
-use Rattle.std.proofs.Common.{◌<◌, length, get_or, arith}
+use Rattle.std.proofs.Common.{get_or}
 use Rattle.beam_code.specs.Good.{GoesTo}
 use Rattle.beam_code.specs.Slots.{state_of}
 use Rattle.slot_kinds.specs.Tables.{Refuses}

@@ -1,4 +1,4 @@
-use Rattle.std.proofs.Common.{◌≡◌, [], sym, ap, subst, ◌∙◌}
+use Rattle.std.proofs.Common.{sym, subst, ◌∙◌}
 use Rattle.beam_code.specs.Flow.{caught, handlers}
 use Rattle.beam_code.specs.Slots.{state_of}
 use Rattle.slot_kinds.specs.Tables.{Goes, Nothing}

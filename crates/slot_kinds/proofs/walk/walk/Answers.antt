@@ -1,9 +1,7 @@
-use Rattle.std.proofs.Common.{◌≡◌, ◌<◌, ◌≤◌, map, length, get_or, Some, sym, ap, subst, ◌∙◌, arith}
+use Rattle.std.proofs.Common.{map, Some, subst, arith}
 use Rattle.std.proofs.lemmas.List.{length-map}
-use Rattle.beam_code.specs.declared.instr.Instr.{Instr}
 use Rattle.beam_code.specs.Code.{opcode}
 use Rattle.beam_code.specs.FlowParts.{falls_as}
-use Rattle.beam_code.specs.Opcode.{Line}
 use Rattle.beam_code.specs.Seen.{opcode_seen}
 use Rattle.beam_code.specs.Slots.{state_of}
 use Rattle.slot_kinds.specs.Tables.{Refuses}
@@ -41,8 +39,8 @@ pub returns-in-Err : goal.returns-in-Err
 returns-in-Err c =
     handed-on (Refuses (GoesOn (opcode_seen c.opcode-opcode.result) (state_of c.loop-instr.state)) c.loop-instr.table) (Refuses (KeepsFrom (map opcode c.args.code.now) (Some (state_of c.args.from))) c.args.table.now) _
     (walk-refused (map opcode c.args.code.now) c.loop-instr.instr-index (opcode_seen c.opcode-opcode.result) (state_of c.args.from) (state_of c.loop-instr.state) c.args.table.now c.loop-instr.table
-      (omega (arith, length-map c.args.code.now opcode)) (opcode-at c.args.code.now c.loop-instr.instr-index c.instr-item.result _ c.loop-instr-test.true c.instr-item.is c.opcode-opcode.ensures)
-      c.in_default.ensures c.loop-instr.invariant) c.in-Err.ensures
+    (omega (arith, length-map c.args.code.now opcode)) (opcode-at c.args.code.now c.loop-instr.instr-index c.instr-item.result _ c.loop-instr-test.true c.instr-item.is c.opcode-opcode.ensures)
+    c.in_default.ensures c.loop-instr.invariant) c.in-Err.ensures
 
 pub returns : goal.returns
 returns c =

@@ -1,6 +1,4 @@
-use Rattle.std.proofs.Common.{◌≡◌, Some, None, sym, ap, subst, ◌∙◌}
-use Rattle.std.specs.Ordering.{nat_cmp}
-use Rattle.std.specs.BTreeMap.{get}
+use Rattle.std.proofs.Common.{sym, subst}
 use Rattle.beam_code.specs.Slots.{state_of}
 use Rattle.beam_code.specs.Good.{GoesTo}
 use Rattle.slot_kinds.specs.Rows.{NoRise, RisesTo}
