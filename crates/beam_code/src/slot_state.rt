@@ -35,8 +35,10 @@ pub struct SlotMap {
 impl SlotState {
     ghost use Rattle.std.specs.Prelude.{◌≡◌, ◌+◌, ◌<◌, ◌≤◌, ℕ, true, false, not, length, Option, None, Some, option_copied, unwrap_or, IfOk, OnOk};
     ghost use Rattle.beam_code.specs.declared.kind.Kind.TheVariants.{Undefined, Term};
-    ghost use Rattle.beam_code.specs.SlotForm.{is_kind, is_undefined};
-    ghost use Rattle.beam_code.specs.Slots.{state_of, entry_state, has_slot, with_y};
+    ghost use Rattle.std.specs.List.{list_all};
+    ghost use Rattle.beam_code.specs.Kinds.{IsFront};
+    ghost use Rattle.beam_code.specs.SlotForm.{is_kind, is_size, is_undefined};
+    ghost use Rattle.beam_code.specs.Slots.{state_of, listed, entry_state, has_slot, with_y};
     ghost use Rattle.beam_code.specs.Flow.{kind_in, writes, live, after_call, caught as caught_in, cleared, exception, framed, unframed, trimmed, is_frame};
     ghost use Rattle.beam_code.specs.Flow as flow;
     ghost use Rattle.beam_code.specs.FlowParts.{has};
@@ -53,6 +55,21 @@ impl SlotState {
             xs,
             ys: Items::new(alloc),
         })
+    }
+
+    /// The state with these kinds of registers, where an x register that is not listed is undefined.
+    pub fn make(frame: Option<u16>, xs: Items<Kind>, ys: Items<Kind>) -> SlotState
+        requires xs_few { length xs ≤ 1024 }
+        requires xs_kinds { list_all is_kind xs ≡ true }
+        requires ys_fit { is_size frame (length ys) ≡ true }
+        requires ys_kinds { list_all is_kind ys ≡ true }
+        ensures is { state_of result ≡ record { frame = frame; xs = listed xs; ys = listed ys } }
+        ensures xs_front { IsFront result.xs xs }
+        ensures ys_same { result.ys ≡ ys }
+    {
+        let mut xs = xs;
+        kinds::trim(&mut xs);
+        SlotState { frame, xs, ys }
     }
 
     /// The same state. The error says that memory was wanting.

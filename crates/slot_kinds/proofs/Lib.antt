@@ -4,3 +4,11 @@ pub mod Entered
 pub mod Counted
 pub mod Left
 pub mod Walking
+pub mod AnswerLaw
+pub mod UnionLaw
+pub mod SegmentLaw
+pub mod JoinLaw
+pub mod GoesLaw
+pub mod TableLaw
+pub mod WalkLaw
+pub mod SettleLaw
