@@ -12,6 +12,8 @@ mod many_files;
 #[cfg(test)]
 mod runs;
 #[cfg(test)]
+mod slots;
+#[cfg(test)]
 mod source_rows;
 #[cfg(test)]
 mod text_rows;
