@@ -1,12 +1,12 @@
 -- Steps from table to table, one behind another.
-use Rattle.std.proofs.Common.{refl, ◌∙◌, arith}
-use Rattle.std.specs.Prelude.{Result, Ok, Err}
+use Rattle.std.proofs.Common.{◌≡◌, refl, ◌∙◌, arith}
+use Rattle.std.specs.Prelude.{is_some, Result, Ok, Err}
 use Rattle.beam_code.specs.Good.{Assignment}
 use Rattle.slot_kinds.specs.declared.fault.SlotFault.{SlotFault}
 use Rattle.slot_kinds.specs.declared.fault.SlotFault.TheVariants.{NotSlotted, NoMemory}
 use Rattle.slot_kinds.specs.Answer.{Answers}
 use Rattle.slot_kinds.specs.declared.table.Table.{Table}
-use Rattle.slot_kinds.specs.Tables.{held, Owed, Nothing, Goes, Refuses}
+use Rattle.slot_kinds.specs.Tables.{known, held, Owed, Nothing, Goes, Refuses}
 use Rattle.slot_kinds.proofs.SegmentLaw.{under-same, under-under}
 
 pub goes-none : (p : Owed) (t : Table) → Goes p p t t
@@ -19,6 +19,7 @@ goes-none p t = record {
   settled = λ l h. h;
   kept = λ l h. refl;
   works = omega arith;
+  tags = λ h. h;
 }
 
 pub goes-then : (p q r : Owed) (a b c : Table) → Goes p q a b → Goes q r b c → Goes p r a c
@@ -31,6 +32,7 @@ goes-then p q r a b c g h = record {
   settled = λ l e. g.settled l (h.settled l e);
   kept = λ l e. h.kept l e ∙ g.kept l (h.settled l e);
   works = omega (arith, g.works, h.works);
+  tags = λ x. h.tags (g.tags x);
 }
 
 -- one part of what is owed is done, another is left
@@ -44,6 +46,7 @@ goes-first p q a b g = record {
   settled = g.settled;
   kept = g.kept;
   works = g.works;
+  tags = g.tags;
 }
 
 -- the same is owed in other words
@@ -57,6 +60,7 @@ goes-as p q r a b f g h = record {
   settled = h.settled;
   kept = h.kept;
   works = h.works;
+  tags = h.tags;
 }
 
 pub refuses-then : (p q : Owed) (a b : Table) → Goes p q a b → Refuses q b → Refuses p a
@@ -76,6 +80,7 @@ goes-end p q a b h g = record {
   settled = g.settled;
   kept = g.kept;
   works = g.works;
+  tags = g.tags;
 }
 
 -- Answers of calls that do what is owed.
@@ -92,3 +97,7 @@ pub outcome-then : (p q : Owed) (a b c : Table) (r : Result (Unit {0}) SlotFault
 outcome-then p q a b c (Ok x) g h = goes-then p q Nothing a b c g h
 outcome-then p q a b c (Err NotSlotted) g h = refuses-then p q a b g h
 outcome-then p q a b c (Err NoMemory) g h = tt
+
+-- the same labels have rows
+pub same-known : (p q : Owed) (a b : Table) → Goes p q a b → known b ≡ known a
+same-known p q a b g = λ i l. is_some (g.stays i l)

@@ -8,7 +8,9 @@ pub mod AnswerLaw
 pub mod UnionLaw
 pub mod SegmentLaw
 pub mod JoinLaw
+pub mod TagsLaw
 pub mod GoesLaw
 pub mod TableLaw
 pub mod WalkLaw
+pub mod RulesLaw
 pub mod SettleLaw

@@ -17,7 +17,8 @@ use Rattle.std.proofs.lemmas.Map.Keys.{sorted_head, sorted_tail}
 use Rattle.beam_code.specs.declared.slot_state.SlotMap.{SlotMap}
 use Rattle.beam_code.specs.declared.slot_state.SlotState.{SlotState}
 use Rattle.beam_code.specs.declared.module.Function.{Function}
-use Rattle.beam_code.specs.Code.{FunctionCode, function_code, no_function}
+use Rattle.beam_code.specs.declared.instr.Instr.{Instr}
+use Rattle.beam_code.specs.Code.{opcode, FunctionCode, function_code, no_function}
 use Rattle.beam_code.specs.Good.{Assignment, GoesTo, MostDefined, NoneGood, assignment_of, listed_at}
 use Rattle.beam_code.specs.Labels.{is_in, defined_in, no_label_twice}
 use Rattle.beam_code.specs.Opcode.{Opcode}
@@ -27,7 +28,8 @@ use Rattle.slot_kinds.specs.declared.fault.SlotFault.{SlotFault}
 use Rattle.slot_kinds.specs.declared.table.Row.{Row}
 use Rattle.slot_kinds.specs.declared.table.Table.{Table}
 use Rattle.slot_kinds.specs.Segments.{Under, Segment, behind}
-use Rattle.slot_kinds.specs.Tables.{state_in, held, places, is_pending, work, Nothing, Goes, Refuses, ArePlaces}
+use Rattle.slot_kinds.specs.Tags.{NamesKnown}
+use Rattle.slot_kinds.specs.Tables.{known, state_in, held, places, is_pending, work, Nothing, Goes, Refuses, ArePlaces}
 use Rattle.slot_kinds.specs.Rows.{IsFresh}
 use Rattle.slot_kinds.specs.Walks.{KeepsFrom, KeepsEach}
 use Rattle.slot_kinds.specs.Settles.{IsQuiet, SettlesTo, entry_of, IsBest}
@@ -233,3 +235,11 @@ settle-end code a t pending s e h = (record { stays = s.stays; rises = s.rises; 
 -- the function of a number
 pub function-is : (fs : List Function) (i : ℕ) (f : Function) → i < length fs → f ≡ get_or fs i f → get_or (map function_code fs) i no_function ≡ function_code f
 function-is fs i f h e = get_or-map function_code fs i f no_function h ∙ ap function_code (sym e)
+
+-- the labels that have rows are those that the code defines
+pub known-names : (is was : List Instr) (t u : Table) → is ≡ was → ArePlaces (map opcode is) (places t) → places u ≡ places t → NamesKnown (is_in (defined_in (map opcode was))) (map opcode was) → NamesKnown (known u) (map opcode is)
+known-names is was t u e a s h =
+    subst (λ k. NamesKnown k (map opcode is)) (sym same) (subst (λ q. NamesKnown (is_in (defined_in (map opcode q))) (map opcode q)) (sym e) h)
+  where
+    same : known u ≡ is_in (defined_in (map opcode is))
+    same = λ i l. (ap (λ (p : ℕ → Option ℕ). is_some (p l)) s ∙ a.defined l) i

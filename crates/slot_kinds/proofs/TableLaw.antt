@@ -23,9 +23,11 @@ use Rattle.slot_kinds.specs.declared.table.Row.{Row}
 use Rattle.slot_kinds.specs.declared.table.Table.{Table}
 use Rattle.slot_kinds.specs.Joins.{rank_of}
 use Rattle.slot_kinds.specs.Segments.{Under, behind}
-use Rattle.slot_kinds.specs.Tables.{state_in, held, places, is_pending, state_rank, row_rank, Nothing, Goes, Refuses}
+use Rattle.slot_kinds.specs.Tables.{known, TagsHeld, state_in, held, places, is_pending, state_rank, row_rank, Nothing, Goes, Refuses}
 use Rattle.slot_kinds.specs.Rows.{fresh, fresh_if, Defines, IsRow, AreRows, IsFresh, RisesTo, NoRise, Raises}
 use Rattle.slot_kinds.proofs.SegmentLaw.{under-same, reached-same}
+use Rattle.slot_kinds.specs.Tags.{TagsKnown, TagsKnownIf}
+use Rattle.slot_kinds.proofs.TagsLaw.{join-known}
 
 -- Making.
 
@@ -140,6 +142,7 @@ stays-goes t label row s e h = record {
   settled = λ l p. p;
   kept = λ l p. refl;
   works = omega arith;
+  tags = λ x. x;
 }
   where
     by : (old : Option SlotState) → RisesTo old s None → (d : Option State) → BelowIfReached (option_map state_of old) d → BelowIfReached (Some (state_of s)) d
@@ -177,9 +180,18 @@ in-cond false x y = refl
 less-work : (new old r p m n : ℕ) → new + r ≡ old + p → p < r → m ≤ n + 1 → 2 * new + m ≤ 2 * old + n
 less-work new old r p m n e l h = omega arith
 
-pub raise-goes : (a b : Table) (label : ℕ) (row : Row) (s u : SlotState) → tree.get nat_cmp a.rows label ≡ Some row → RisesTo row.state s (Some u) → Raises label (record { place = row.place; state = Some u }) a b
+-- a state that rises has tags of known labels
+rise-tags : (known : ℕ → Bool) (old : Option SlotState) (s u : SlotState) → RisesTo old s (Some u) → TagsKnownIf known (option_map state_of old) → TagsKnown known (state_of s) → TagsKnown known (state_of u)
+rise-tags known None s u h p q = subst (TagsKnown known) (sym h.0) q
+rise-tags known (Some old) s u h p q = join-known known (state_of old) (state_of s) (state_of u) h.0 (p (state_of old) refl) q
+
+-- what an instruction at a place stands for
+pub opcode-at : (code : List Instr) (at : ℕ) (i : Instr) (o : Opcode) → at < length code → i ≡ get_or code at i → o ≡ opcode i → o ≡ get_or (map opcode code) at Line
+opcode-at code at i o h e is = is ∙ ap opcode e ∙ sym (get_or-map opcode code at i Line h)
+
+pub raise-goes : (a b : Table) (label : ℕ) (row : Row) (s u : SlotState) → tree.get nat_cmp a.rows label ≡ Some row → RisesTo row.state s (Some u) → Raises label (record { place = row.place; state = Some u }) a b → TagsKnown (known a) (state_of s)
     → Goes (λ at. GoesTo at (label, state_of s)) Nothing a b
-raise-goes a b label row s u e h r = record {
+raise-goes a b label row s u e h r q = record {
   stays = λ i l. shape l (tree.is_at (nat_cmp label) l) refl i;
   rises = λ q. subst (BelowIfReached (held a q)) (sym (now q)) (up q (tree.is_at (nat_cmp label) q) refl);
   done = λ at v o. reached-below (Some (state_of s)) (Some (state_of u)) (at label) (rise-covers row.state s u h) (subst (λ x. BelowIfReached x (at label)) (here label (at-here label)) (v label));
@@ -192,6 +204,7 @@ raise-goes a b label row s u e h r = record {
       ∙ ap (λ o. sum_by row_rank (values_of (tree.insert_entry nat_cmp a.rows.entries label (record { place = row.place; state = Some u }))) + unwrap_or (option_map row_rank o) 0) (sym e)
       ∙ sum_by-insert_entry row_rank nat_cmp_total a.rows.entries label (record { place = row.place; state = Some u }) r.ordered)
       (rise-rank row.state s u h) r.few;
+  tags = λ x l. subst (λ p. TagsKnownIf (λ n. is_some (p n)) (held b l)) (sym shapes) (tagged x l (tree.is_at (nat_cmp label) l) refl);
 }
   where
     now : (q : ℕ) → held b q ≡ cond (tree.is_at (nat_cmp label) q) (Some (state_of u)) (held a q)
@@ -229,6 +242,11 @@ raise-goes a b label row s u e h r = record {
         ∙ ap (λ o. option_map (λ (row : Row). row.place) o) (sym (ap (tree.get nat_cmp a.rows) (sym (at-same label l t)) ∙ e))
     shape l false t = ap (λ o. option_map (λ (row : Row). row.place) o) (r.rows.0 l ∙ ap (λ c. cond c (Some (record { place = row.place; state = Some u })) (tree.get nat_cmp a.rows l)) t)
 
--- what an instruction at a place stands for
-pub opcode-at : (code : List Instr) (at : ℕ) (i : Instr) (o : Opcode) → at < length code → i ≡ get_or code at i → o ≡ opcode i → o ≡ get_or (map opcode code) at Line
-opcode-at code at i o h e is = is ∙ ap opcode e ∙ sym (get_or-map opcode code at i Line h)
+    shapes : places b ≡ places a
+    shapes = λ i l. shape l (tree.is_at (nat_cmp label) l) refl i
+
+    tagged : TagsHeld a → (l : ℕ) (c : Bool) → tree.is_at (nat_cmp label) l ≡ c → TagsKnownIf (known a) (held b l)
+    tagged x l true t =
+        subst (TagsKnownIf (known a)) (sym (here l t))
+        (λ z i. let w : state_of u ≡ z = cc in subst (TagsKnown (known a)) w (rise-tags (known a) row.state s u h (subst (TagsKnownIf (known a)) was (x label)) q))
+    tagged x l false t = subst (TagsKnownIf (known a)) (sym (away l t)) (x l)

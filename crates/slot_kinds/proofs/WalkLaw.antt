@@ -6,16 +6,18 @@ use Rattle.std.proofs.lemmas.List.{drop_more, drop_all, nil_from_length}
 use Rattle.beam_code.specs.Flow.{Flow, flow}
 use Rattle.beam_code.specs.FlowParts.{allows, entered, left, parts}
 use Rattle.beam_code.specs.Good.{Assignment, GoesTo, GoToEach, Onward}
-use Rattle.beam_code.specs.Labels.{defined_by}
+use Rattle.beam_code.specs.Labels.{defined_by, labels_named}
 use Rattle.beam_code.specs.Opcode.{Opcode, Label, Line}
 use Rattle.beam_code.specs.Slots.{State}
 use Rattle.beam_code.proofs.FlowPartsLaw.{flow-parts}
 use Rattle.slot_kinds.specs.declared.fault.SlotFault.{SlotFault}
 use Rattle.slot_kinds.specs.declared.table.Table.{Table}
 use Rattle.slot_kinds.specs.Segments.{Segment, SegmentStep}
-use Rattle.slot_kinds.specs.Tables.{Nothing, Goes, Refuses}
+use Rattle.slot_kinds.specs.Tags.{AreKnown, TagsKnown, TagsKnownIf}
+use Rattle.slot_kinds.specs.Tables.{known, Nothing, Goes, Refuses}
 use Rattle.slot_kinds.specs.Walks.{ReachesEach, ReachesAll, GoesOn, Passes, KeepsFrom}
-use Rattle.slot_kinds.proofs.GoesLaw.{goes-then, goes-first, goes-as, refuses-then, refuses-as, goes-end, Outcome, outcome-then}
+use Rattle.slot_kinds.proofs.TagsLaw.{left-known}
+use Rattle.slot_kinds.proofs.GoesLaw.{same-known, goes-then, goes-first, goes-as, refuses-then, refuses-as, goes-end, Outcome, outcome-then}
 use Rattle.slot_kinds.proofs.SegmentLaw.{segment-none}
 
 -- Labels.
@@ -49,12 +51,14 @@ pass-refused o s t a e i r =
     refuses-as (GoesOn o s) (ReachesAll o t) a
     (λ at w. let f : Onward at (λ next. Unit {0}) (Some (parts o s)) = subst (Onward at (λ next. Unit {0})) (chosen true o s e) w in subst (λ x. ReachesAll o x at) (sym i) (f.0, f.1)) r
 
-pub passes : (o : Opcode) (s t : State) (next : Option State) (a b : Table) → allows o s ≡ true → t ≡ entered o s → next ≡ left o t → Goes (ReachesAll o t) Nothing a b → Passes o s next a b
-passes o s t next a b e i l g = record {
+pub passes : (o : Opcode) (s t : State) (next : Option State) (a b : Table) → allows o s ≡ true → t ≡ entered o s → next ≡ left o t → AreKnown (known a) (labels_named o) → TagsKnown (known a) s → Goes (ReachesAll o t) Nothing a b
+    → Passes o s next a b
+passes o s t next a b e i l n k g = record {
   flows = parts o s;
   is = chosen true o s e;
   falls = ap (left o) (sym i) ∙ sym l;
   goes = subst (λ x. Goes (ReachesAll o x) Nothing a b) i g;
+  tags = subst (λ q. TagsKnownIf q next) (sym (same-known (ReachesAll o t) Nothing a b g)) (λ z r. left-known (known a) o s z n e k (ap (left o) (sym i) ∙ sym l ∙ r));
 }
 
 -- Segments.

@@ -4,6 +4,7 @@ pub mod Answer
 pub mod Unions
 pub mod Segments
 pub mod Joins
+pub mod Tags
 pub mod Tables
 pub mod Rows
 pub mod Walks

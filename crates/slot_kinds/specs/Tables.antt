@@ -12,6 +12,7 @@ use Rattle.beam_code.specs.Slots.{State, state_of}
 use Rattle.slot_kinds.specs.declared.table.Row.{Row}
 use Rattle.slot_kinds.specs.declared.table.Table.{Table}
 use Rattle.slot_kinds.specs.Joins.{rank_of}
+use Rattle.slot_kinds.specs.Tags.{TagsKnownIf}
 use Rattle.slot_kinds.specs.Segments.{Under, behind}
 
 abbrev pub state_in : Option Row → Option State
@@ -28,6 +29,14 @@ places t label = option_map (λ (row : Row). row.place) (get nat_cmp t.rows labe
 
 abbrev pub is_pending : Table → ℕ → Bool
 is_pending t label = contains nat_cmp t.pending label
+
+-- a label has a row
+abbrev pub known : Table → ℕ → Bool
+known t label = is_some (places t label)
+
+-- the tags of each state that is held have known labels
+abbrev pub TagsHeld : Table → Type 0
+TagsHeld t = (label : ℕ) → TagsKnownIf (known t) (held t label)
 
 -- a label that is not reached counts more than any state
 abbrev pub state_rank : Option SlotState → ℕ
@@ -59,6 +68,7 @@ pub record Goes (before after : Owed) (old new : Table) : Type 0 where
   pub settled : (label : ℕ) → is_pending new label ≡ false → is_pending old label ≡ false
   pub kept : (label : ℕ) → is_pending new label ≡ false → held new label ≡ held old label
   pub works : work new ≤ work old
+  pub tags : TagsHeld old → TagsHeld new
 
 -- no assignment above the table does what is owed
 abbrev pub Refuses : Owed → Table → Type 0

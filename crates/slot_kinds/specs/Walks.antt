@@ -9,7 +9,8 @@ use Rattle.beam_code.specs.Slots.{State}
 use Rattle.beam_code.specs.Weights.{may_raise}
 use Rattle.slot_kinds.specs.declared.table.Table.{Table}
 use Rattle.slot_kinds.specs.Segments.{Segment, behind}
-use Rattle.slot_kinds.specs.Tables.{Owed, Nothing, Goes}
+use Rattle.slot_kinds.specs.Tags.{TagsKnownIf}
+use Rattle.slot_kinds.specs.Tables.{known, Owed, Nothing, Goes}
 
 -- the labels are reached in that state
 abbrev pub ReachesEach : State → List ℕ → Owed
@@ -29,6 +30,7 @@ pub record Passes (o : Opcode) (s : State) (next : Option State) (old new : Tabl
   pub is : flow o s ≡ Some flows
   pub falls : flows.next ≡ next
   pub goes : Goes (λ at. GoToEach at flows.goes × GoToEach at flows.raised) Nothing old new
+  pub tags : TagsKnownIf (known new) next
 
 -- the code is kept from that state on, up to the next label
 abbrev pub KeepsFrom : List Opcode → Option State → Owed

@@ -3,11 +3,12 @@
 ghost use Rattle.std.specs.Prelude.{◌≡◌, ◌<◌, true, [], length, map};
 ghost use Rattle.beam_code.specs.Code.{function_at, function_code, module_code, opcode as opcode_of};
 ghost use Rattle.beam_code.specs.Good.{NoneGood};
-ghost use Rattle.beam_code.specs.Labels.{KeepsLabelRules, defined_in, no_label_twice};
+ghost use Rattle.beam_code.specs.Labels.{KeepsLabelRules, defined_in, is_in, no_label_twice};
 ghost use Rattle.slot_kinds.specs.Answer.{Answers};
 ghost use Rattle.slot_kinds.specs.Segments.{behind};
 ghost use Rattle.slot_kinds.specs.Settles.{IsBest, IsQuiet, SettlesTo};
-ghost use Rattle.slot_kinds.specs.Tables.{held, places, ArePlaces, Goes, Nothing, Refuses};
+ghost use Rattle.slot_kinds.specs.Tags.{NamesKnown};
+ghost use Rattle.slot_kinds.specs.Tables.{TagsHeld, known, held, places, ArePlaces, Goes, Nothing, Refuses};
 ghost use Rattle.slot_kinds.specs.Walks.{KeepsFrom, KeepsEach};
 
 use crate::SlotFault;
@@ -30,6 +31,8 @@ pub fn kinds(alloc: Global, module: &Module, func: usize) -> Result<SlotMap, Slo
 
 fn function_kinds(alloc: Global, function: &Function) -> Result<SlotMap, SlotFault>
     requires distinct { no_label_twice (defined_in (map opcode_of function.now.code)) ≡ true }
+    requires entered { is_in (defined_in (map opcode_of function.now.code)) function.now.entry ≡ true }
+    requires names_known { NamesKnown (is_in (defined_in (map opcode_of function.now.code))) (map opcode_of function.now.code) }
     ensures { Answers (IsBest (function_code function.now)) (NoneGood (function_code function.now)) result }
 {
     let code = function.code.as_slice();
@@ -48,6 +51,8 @@ fn function_kinds(alloc: Global, function: &Function) -> Result<SlotMap, SlotFau
 fn settle(alloc: Global, code: &[Instr], table: &mut Table) -> Result<(), SlotFault>
     requires placed { ArePlaces (map opcode_of code.now) (places table.old) }
     requires quiet { IsQuiet (map opcode_of code.now) table.old }
+    requires names_known { NamesKnown (known table.old) (map opcode_of code.now) }
+    requires tags_known { TagsHeld table.old }
     ensures { Answers (λ _. SettlesTo (map opcode_of code.now) table.old table.new × (table.new.pending.keys ≡ [])) (Refuses (KeepsEach (map opcode_of code.now)) table.old) result }
 {
     while let Some(label) = table.pending.pop_first() {
@@ -61,7 +66,9 @@ fn settle(alloc: Global, code: &[Instr], table: &mut Table) -> Result<(), SlotFa
 
 // Goes through the code behind a label, if the label is reached.
 fn revisit(alloc: Global, code: &[Instr], table: &mut Table, label: u32) -> Result<(), SlotFault>
-    requires { ArePlaces (map opcode_of code.now) (places table.old) }
+    requires placed { ArePlaces (map opcode_of code.now) (places table.old) }
+    requires names_known { NamesKnown (known table.old) (map opcode_of code.now) }
+    requires tags_known { TagsHeld table.old }
     ensures { Answers (λ _. Goes (KeepsFrom (behind label (map opcode_of code.now)) (held table.old label)) Nothing table.old table.new) (Refuses (KeepsFrom (behind label (map opcode_of code.now)) (held table.old label)) table.old) result }
 {
     let Some(row) = table.rows.get(&label) else {

@@ -1,6 +1,6 @@
 //! The states of labels, while they are found.
 
-ghost use Rattle.std.specs.Prelude.{◌≡◌, ◌<◌, ◌^◌, map, IfOk, OnOk};
+ghost use Rattle.std.specs.Prelude.{◌≡◌, true, ◌<◌, ◌^◌, map, IfOk, OnOk};
 ghost use Rattle.std.specs.Ordering.{nat_cmp};
 ghost use Rattle.std.specs.BTreeMap.{get};
 ghost use Rattle.beam_code.specs.Code.{opcode as opcode_of};
@@ -10,7 +10,8 @@ ghost use Rattle.beam_code.specs.Slots.{state_of};
 ghost use Rattle.slot_kinds.specs.Answer.{Answers};
 ghost use Rattle.slot_kinds.specs.Joins.{rank_of};
 ghost use Rattle.slot_kinds.specs.Settles.{entry_of};
-ghost use Rattle.slot_kinds.specs.Tables.{held, Goes, Nothing, Refuses};
+ghost use Rattle.slot_kinds.specs.Tags.{TagsKnown};
+ghost use Rattle.slot_kinds.specs.Tables.{known, held, Goes, Nothing, Refuses};
 ghost use Rattle.slot_kinds.specs.Rows.{Defines, IsFresh, Raises, RisesTo, NoRise};
 
 use crate::SlotFault;
@@ -56,10 +57,12 @@ impl Table {
         label: u32,
         state: &SlotState,
     ) -> Result<(), SlotFault>
+        requires label_known { known self.old label ≡ true }
+        requires tags_known { TagsKnown (known self.old) (state_of state.now) }
         ensures { Answers (λ _. Goes (λ at. GoesTo at (label, state_of state.now)) Nothing self.old self.new) (Refuses (λ at. GoesTo at (label, state_of state.now)) self.old) result }
     {
         let Some(row) = self.rows.get(&label) else {
-            return Err(SlotFault::NoMemory);
+            unreachable!()
         };
         let place = row.place;
         match risen(alloc, &row.state, state) {

@@ -9,7 +9,8 @@ ghost use Rattle.beam_code.specs.Labels as named;
 ghost use Rattle.beam_code.specs.Seen.{opcode_seen};
 ghost use Rattle.beam_code.specs.Slots.{state_of};
 ghost use Rattle.slot_kinds.specs.Answer.{Answers};
-ghost use Rattle.slot_kinds.specs.Tables.{Goes, Nothing, Refuses};
+ghost use Rattle.slot_kinds.specs.Tags.{AreKnown, NamesKnown, TagsKnown};
+ghost use Rattle.slot_kinds.specs.Tables.{known, Goes, Nothing, Refuses};
 ghost use Rattle.slot_kinds.specs.Walks.{ReachesEach, ReachesAll, GoesOn, Passes, KeepsFrom};
 
 use crate::SlotFault;
@@ -24,6 +25,8 @@ pub(crate) fn walk(
     table: &mut Table,
     from: SlotState,
 ) -> Result<(), SlotFault>
+    requires names_known { NamesKnown (known table.old) (map opcode_of code.now) }
+    requires tags_known { TagsKnown (known table.old) (state_of from) }
     ensures { Answers (λ _. Goes (KeepsFrom (map opcode_of code.now) (Some (state_of from))) Nothing table.old table.new) (Refuses (KeepsFrom (map opcode_of code.now) (Some (state_of from))) table.old) result }
 {
     let mut state = from;
@@ -58,6 +61,8 @@ fn pass(
     table: &mut Table,
     state: &mut SlotState,
 ) -> Result<bool, SlotFault>
+    requires names_known { AreKnown (known table.old) (named.labels_named (opcode_seen opcode)) }
+    requires tags_known { TagsKnown (known table.old) (state_of state.old) }
     ensures { Answers (λ falls. Passes (opcode_seen opcode.entry) (state_of state.old) (falls_as falls (state_of state.new)) table.old table.new) (Refuses (GoesOn (opcode_seen opcode.entry) (state_of state.old)) table.old) result }
 {
     if !holds(opcode, state) {
@@ -77,6 +82,8 @@ fn reach_all(
     table: &mut Table,
     state: &SlotState,
 ) -> Result<(), SlotFault>
+    requires names_known { AreKnown (known table.old) (named.labels_named (opcode_seen opcode)) }
+    requires tags_known { TagsKnown (known table.old) (state_of state.now) }
     ensures { Answers (λ _. Goes (ReachesAll (opcode_seen opcode.entry) (state_of state.now)) Nothing table.old table.new) (Refuses (ReachesAll (opcode_seen opcode.entry) (state_of state.now)) table.old) result }
 {
     match reach_branches(alloc, opcode, table, state) {
@@ -96,6 +103,8 @@ fn reach_branches(
     table: &mut Table,
     state: &SlotState,
 ) -> Result<(), SlotFault>
+    requires labels_known { AreKnown (known table.old) (labels_gone (opcode_seen opcode)) }
+    requires tags_known { TagsKnown (known table.old) (state_of state.now) }
     ensures { Answers (λ _. Goes (ReachesEach (state_of state.now) (labels_gone (opcode_seen opcode.entry))) Nothing table.old table.new) (Refuses (ReachesEach (state_of state.now) (labels_gone (opcode_seen opcode.entry))) table.old) result }
 {
     let branches = branches_of(opcode);
@@ -114,6 +123,8 @@ fn reach_cases(
     cases: &[(Src, u32)],
     state: &SlotState,
 ) -> Result<(), SlotFault>
+    requires labels_known { AreKnown (known table.old) (map (λ c. c.1) cases.now) }
+    requires tags_known { TagsKnown (known table.old) (state_of state.now) }
     ensures { Answers (λ _. Goes (ReachesEach (state_of state.now) (map (λ c. c.1) cases.now)) Nothing table.old table.new) (Refuses (ReachesEach (state_of state.now) (map (λ c. c.1) cases.now)) table.old) result }
 {
     for (_, label) in cases {
@@ -126,6 +137,7 @@ fn reach_cases(
 }
 
 fn reach_handlers(alloc: Global, table: &mut Table, state: &SlotState) -> Result<(), SlotFault>
+    requires { TagsKnown (known table.old) (state_of state.now) }
     ensures { Answers (λ _. Goes (λ at. GoToEach at (raised_from (state_of state.now))) Nothing table.old table.new) (Refuses (λ at. GoToEach at (raised_from (state_of state.now))) table.old) result }
 {
     let handlers = state.handlers();
@@ -142,6 +154,8 @@ fn reach_each(
     labels: &[u32],
     state: &SlotState,
 ) -> Result<(), SlotFault>
+    requires labels_known { AreKnown (known table.old) labels.now }
+    requires tags_known { TagsKnown (known table.old) (state_of state.now) }
     ensures { Answers (λ _. Goes (ReachesEach (state_of state.now) labels.now) Nothing table.old table.new) (Refuses (ReachesEach (state_of state.now) labels.now) table.old) result }
 {
     for label in labels {

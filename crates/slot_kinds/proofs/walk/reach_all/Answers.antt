@@ -7,6 +7,10 @@ use Rattle.beam_code.specs.Seen.{opcode_seen}
 use Rattle.beam_code.specs.Slots.{state_of}
 use Rattle.slot_kinds.specs.Walks.{ReachesEach}
 use Rattle.slot_kinds.proofs.GoesLaw.{goes-first, Outcome, outcome-then}
+use Rattle.slot_kinds.specs.Tags.{TagsKnown}
+use Rattle.slot_kinds.specs.Tables.{known, Nothing}
+use Rattle.slot_kinds.proofs.TagsLaw.{gone-known}
+use Rattle.slot_kinds.proofs.GoesLaw.{same-known}
 use Rattle.slot_kinds.proofs.walk.reach_all.Goals as goal
 
 pub returns-then-may_raise : goal.returns-then-may_raise
@@ -17,3 +21,13 @@ returns-then-may_raise c =
     c.args.table.now c.reach_branches.new.table c.reach_handlers.new.table c.reach_handlers.result
     (goes-first (ReachesEach (state_of c.args.state.now) (labels_gone (opcode_seen c.args.opcode))) (λ at. GoToEach at (raised_from (state_of c.args.state.now))) c.args.table.now c.reach_branches.new.table c.in-Ok.ensures)
     c.reach_handlers.ensures)
+
+pub reach_branches-requires : goal.reach_branches-requires
+reach_branches-requires c = record {
+  labels_known = gone-known (known c.args.table.now) (opcode_seen c.args.opcode) c.requires.names_known;
+  tags_known = c.requires.tags_known;
+}
+
+pub reach_handlers-requires : goal.reach_handlers-requires
+reach_handlers-requires c =
+    subst (λ q. TagsKnown q (state_of c.args.state.now)) (sym (same-known (ReachesEach (state_of c.args.state.now) (labels_gone (opcode_seen c.args.opcode))) Nothing c.args.table.now c.reach_branches.new.table c.in-Ok.ensures)) c.requires.tags_known

@@ -8,6 +8,11 @@ use Rattle.slot_kinds.specs.Walks.{ReachesEach}
 use Rattle.slot_kinds.proofs.AnswerLaw.{handed-on}
 use Rattle.slot_kinds.proofs.GoesLaw.{goes-none}
 use Rattle.slot_kinds.proofs.WalkLaw.{each-more, each-refused}
+use Rattle.std.proofs.Common.{Bool, drop}
+use Rattle.slot_kinds.specs.Tags.{TagsKnown}
+use Rattle.slot_kinds.specs.Tables.{known}
+use Rattle.slot_kinds.proofs.TagsLaw.{known-at}
+use Rattle.slot_kinds.proofs.GoesLaw.{same-known}
 use Rattle.slot_kinds.proofs.walk.reach_cases.Goals as goal
 
 abbrev labels : List (Src × ℕ) → List ℕ
@@ -35,3 +40,14 @@ loop-label-preserved c =
     each-more (state_of c.args.state.now) (labels c.args.cases.now) c.loop-label.label-index 0 c.args.table.now c.loop-label.table c.reach.new.self
     (within c.args.cases.now c.loop-label.label-index c.loop-label-test.true) c.loop-label.invariant
     (subst (λ l. Goes (λ at. GoesTo at (l, state_of c.args.state.now)) Nothing c.loop-label.table c.reach.new.self) (named c.args.cases.now c.loop-label.label-index c.loop-label-item.result c.loop-label-test.true c.loop-label-item.is) c.in-Ok.ensures)
+
+pub reach-requires : goal.reach-requires
+reach-requires c =
+    let same : known c.loop-label.table ≡ known c.args.table.now = same-known (ReachesEach (state_of c.args.state.now) (labels c.args.cases.now)) (ReachesEach (state_of c.args.state.now) (drop c.loop-label.label-index (labels c.args.cases.now))) c.args.table.now c.loop-label.table c.loop-label.invariant in
+    record {
+      label_known =
+          ap (λ (q : ℕ → Bool). q c.loop-label-item.result.1) same
+          ∙ ap (known c.args.table.now) (named c.args.cases.now c.loop-label.label-index c.loop-label-item.result c.loop-label-test.true c.loop-label-item.is)
+          ∙ known-at (known c.args.table.now) (labels c.args.cases.now) c.loop-label.label-index (within c.args.cases.now c.loop-label.label-index c.loop-label-test.true) c.requires.labels_known;
+      tags_known = subst (λ q. TagsKnown q (state_of c.args.state.now)) (sym same) c.requires.tags_known;
+    }

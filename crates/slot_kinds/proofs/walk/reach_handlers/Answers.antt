@@ -5,6 +5,9 @@ use Rattle.slot_kinds.specs.Tables.{Goes, Nothing}
 use Rattle.slot_kinds.specs.Walks.{ReachesEach}
 use Rattle.slot_kinds.proofs.GoesLaw.{goes-none, Outcome}
 use Rattle.slot_kinds.proofs.WalkLaw.{empty-is}
+use Rattle.slot_kinds.specs.Tags.{AreKnown, TagsKnown}
+use Rattle.slot_kinds.specs.Tables.{known}
+use Rattle.slot_kinds.proofs.TagsLaw.{handlers-known}
 use Rattle.slot_kinds.proofs.walk.reach_handlers.Goals as goal
 
 pub returns-then-is_empty : goal.returns-then-is_empty
@@ -16,3 +19,9 @@ pub returns : goal.returns
 returns c =
     subst (λ s. Outcome (ReachesEach s (handlers (state_of c.args.state.now))) c.args.table.now c.reach_each.new.table c.reach_each.result) c.in_ok-caught.ensures
     (subst (λ ls. Outcome (ReachesEach (state_of c.in_ok-caught.caught) ls) c.args.table.now c.reach_each.new.table c.reach_each.result) c.handlers-handlers.ensures c.reach_each.ensures)
+
+pub reach_each-requires : goal.reach_each-requires
+reach_each-requires c = record {
+  labels_known = subst (AreKnown (known c.args.table.now)) (sym c.handlers-handlers.ensures) (handlers-known (known c.args.table.now) (state_of c.args.state.now) c.requires);
+  tags_known = subst (TagsKnown (known c.args.table.now)) (sym c.in_ok-caught.ensures) c.requires;
+}

@@ -20,4 +20,4 @@ returns-in-Ok-None c =
 pub returns-in_ok-raise-in-Ok-Some : goal.returns-in_ok-raise-in-Ok-Some
 returns-in_ok-raise-in-Ok-Some c =
     raise-goes c.args.self.now c.raise.new.self c.args.label c.in-Some.row.now c.args.state.now c.in-Ok-Some.higher (sym c.in-Some.ensures.value)
-    (subst (RisesTo c.in-Some.row.now.state c.args.state.now) c.in-Ok-Some.field-0-is c.in-Ok-Some.ensures) c.in_ok-raise-in-Ok-Some.ensures
+    (subst (RisesTo c.in-Some.row.now.state c.args.state.now) c.in-Ok-Some.field-0-is c.in-Ok-Some.ensures) c.in_ok-raise-in-Ok-Some.ensures c.requires.tags_known
