@@ -1,8 +1,8 @@
 -- Bytes have one class, and a class has one byte string.
-use Rattle.std.proofs.Common.{◌≡◌, ℕ, List, Result, Ok, Err, sym, ap, ◌∙◌}
+use Rattle.std.proofs.Common.{◌≡◌, ℕ, List, Result, Ok, sym, ◌∙◌}
 use Rattle.jvm_code.specs.declared.class.Class.{Class}
 use Rattle.jvm_code.specs.Fault.{Fault}
-use Rattle.jvm_code.specs.ReadClass.{ClassOf, read_class}
+use Rattle.jvm_code.specs.ReadClass.{ClassOf}
 use Rattle.jvm_code.specs.Spelling.{class_bytes}
 use Rattle.jvm_code.proofs.ToldClass.{class_told}
 

@@ -1,11 +1,11 @@
 -- A text passes as the name of a class exactly where a module has it.
-use Rattle.std.proofs.Common.{◌≡◌, ℕ, zero, suc, ◌+◌, ◌/◌, ◌%◌, ◌<◌, ◌≤◌, nat_lt, Bool, true, false, ◌&&◌, cond, List, [], ◌∷◌, ◌++◌, length, take, drop, codes, Option, None, Some, encode_utf8_all, flat_map, IsUtf8, refl, sym, ap, ◌∙◌, subst, length-append, length-drop, arith}
+use Rattle.std.proofs.Common.{◌≡◌, ℕ, ◌/◌, ◌%◌, ◌<◌, ◌≤◌, nat_lt, Bool, true, false, ◌&&◌, cond, List, [], ◌∷◌, ◌++◌, length, take, drop, codes, Option, None, Some, encode_utf8_all, flat_map, refl, sym, ap, ◌∙◌, length-append, length-drop, arith}
 use Rattle.std.proofs.lemmas.Bool.{and_parts, ltb-true}
 use Rattle.std.proofs.lemmas.Bool.Decides.{nat_tests}
 use Rattle.std.proofs.lemmas.List.{take-append-drop}
 use Rattle.std.proofs.lemmas.Slice.Eq.{bytes_eq-Decides}
 use Rattle.std.proofs.lemmas.Str.{IsUtf8-from_is_utf8, is_utf8-from_IsUtf8, length-le-encodes}
-use Rattle.std.specs.Str.{bytes_eq, is_utf8, all_scalars}
+use Rattle.std.specs.Str.{all_scalars}
 use Rattle.jvm_code.specs.Names.{are_utf8, is_kept, upper_digit, mangle_byte, mangle, class_name, unmangle, is_mangled, is_class_name}
 use Rattle.jvm_code.specs.NamesLaw.{NameOf, ModuleOf}
 use Rattle.jvm_code.proofs.MangleLaw.{unmangled, text_told}

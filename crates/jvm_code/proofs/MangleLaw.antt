@@ -1,7 +1,7 @@
 -- A text passes as a mangled name exactly where one is mangled to it.
-use Rattle.std.proofs.Common.{◌≡◌, ℕ, zero, suc, ◌+◌, ◌-◌, ◌*◌, ◌/◌, ◌%◌, ◌<◌, ◌≤◌, nat_eq, nat_le, nat_lt, Bool, true, false, ◌&&◌, ◌||◌, if◌then◌else◌, cond, List, [], ◌∷◌, ◌++◌, Option, None, Some, option_map, option_and_then, flat_map, refl, sym, ap, ◌∙◌, subst, arith}
+use Rattle.std.proofs.Common.{◌≡◌, ℕ, ◌+◌, ◌-◌, ◌*◌, ◌/◌, ◌%◌, ◌<◌, ◌≤◌, nat_eq, nat_le, nat_lt, Bool, true, false, ◌&&◌, cond, List, [], ◌∷◌, ◌++◌, Option, None, Some, option_map, option_and_then, flat_map, refl, sym, ap, ◌∙◌, arith}
 use Rattle.std.proofs.lemmas.Bool.Decides.{nat_tests}
-use Rattle.jvm_code.specs.Names.{is_kept, upper_digit, mangle_byte, hexadecimal, Place, Before, Dollar, High, behind_digit, escaped, read_byte, ends, unmangle_from, unmangle}
+use Rattle.jvm_code.specs.Names.{is_kept, upper_digit, mangle_byte, hexadecimal, Place, Before, Dollar, High, behind_digit, escaped, read_byte, unmangle_from, unmangle}
 
 -- each is a byte
 abbrev pub Bytes : List ℕ → Type 0

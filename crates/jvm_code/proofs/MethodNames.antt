@@ -101,7 +101,7 @@ split_told p mark text name n digits m (Some k) s e =
     record {
       is = sym (take-append-drop p text) ∙ ap (λ d. take p text ++ d) (small_told (drop p text) k digits s ∙ ap decimal same_number)
           ∙ ap (λ t. t ++ decimal n) (sym (take-append-drop (p - 2) (take p text)) ∙ ap (λ m. take (p - 2) (take p text) ++ m) m
-            ∙ ap (λ t. t ++ mark) (take_less (p - 2) p text (omega arith) ∙ same_name))
+          ∙ ap (λ t. t ++ mark) (take_less (p - 2) p text (omega arith) ∙ same_name))
           ∙ append_assoc name mark (decimal n);
       below = subst (λ k. k < 1000) same_number (small_below (drop p text) k digits s);
     }
@@ -172,7 +172,7 @@ numbered_spelled name x c n e l =
     let mark = x ∷ c ∷ [] in
     let text = name ++ (x ∷ c ∷ decimal n) in
     let place : digits_at text ≡ length name + 2 =
-        ap digits_at (sym (append_assoc name (x ∷ []) (c ∷ decimal n))) ∙ last_place (name ++ x ∷ []) c (decimal n) 0 0 e s.digits ∙ omega (arith, length-append name (x ∷ [])) in
+    ap digits_at (sym (append_assoc name (x ∷ []) (c ∷ decimal n))) ∙ last_place (name ++ x ∷ []) c (decimal n) 0 0 e s.digits ∙ omega (arith, length-append name (x ∷ [])) in
     let cut = cut_at name mark (decimal n) (digits_at text) refl place in
     assembled (nat_lt (digits_at text) 2) (drop (digits_at text - 2) (take (digits_at text) text)) mark (take (digits_at text - 2) text) name (small_number (drop (digits_at text) text)) n
     (no_less (digits_at text) (omega (arith, place))) cut.0 cut.1 (ap small_number cut.2 ∙ s.read)

@@ -1,10 +1,10 @@
 -- Readers go on by as many bytes as they take.
-use Rattle.std.proofs.Common.{◌≡◌, ℕ, zero, suc, ◌+◌, ◌-◌, ◌<◌, ◌≤◌, nat_le, nat_eq, Bool, true, false, cond, if◌then◌else◌, List, [], ◌∷◌, length, take, drop, Result, Ok, Err, refl, sym, ap, ◌∙◌, arith}
-use Rattle.std.proofs.lemmas.Bool.{leb-true, eqb-true}
+use Rattle.std.proofs.Common.{◌≡◌, ℕ, zero, suc, ◌+◌, ◌≤◌, nat_le, Bool, true, false, if◌then◌else◌, List, [], ◌∷◌, length, take, drop, Ok, Err, refl, sym, ap, ◌∙◌, arith}
+use Rattle.std.proofs.lemmas.Bool.{leb-true}
 use Rattle.std.proofs.lemmas.List.{length-drop}
 use Rattle.byteorder.specs.Endian.{big_number}
-use Rattle.jvm_code.specs.Fault.{Fault, NotClass, OutsideProfile}
-use Rattle.jvm_code.specs.Reader.{Got, Reader, done, broken, outside, go_on, then_read, read_as, got_at, item, bytes, number, Verdict, Fine, Broken, Forbidden, settled, judged, field, times, padding, pad_byte}
+use Rattle.jvm_code.specs.Fault.{NotClass}
+use Rattle.jvm_code.specs.Reader.{Got, Reader, done, broken, outside, go_on, then_read, read_as, bytes, number, Verdict, Fine, Broken, Forbidden, settled, judged, field, times, padding}
 
 pub record Moved (at : ℕ) (bs : List ℕ) (to : ℕ) (rest : List ℕ) : Type 0 where
   pub on : at ≤ to

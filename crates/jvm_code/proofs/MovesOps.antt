@@ -1,5 +1,5 @@
 -- An instruction takes a byte at least.
-use Rattle.std.proofs.Common.{◌≡◌, ℕ, zero, suc, ◌+◌, ◌-◌, ◌<◌, ◌≤◌, ◌^◌, ℤ, pos, ◌-ℤ◌, nat_abs, nat_eq, nat_le, nat_lt, int_le, ◌&&◌, true, false, List, length, slice_get, Ok, ◌∙◌, arith}
+use Rattle.std.proofs.Common.{◌≡◌, ℕ, ◌+◌, ◌-◌, ◌<◌, ◌^◌, ℤ, pos, ◌-ℤ◌, nat_abs, nat_eq, nat_le, nat_lt, int_le, ◌&&◌, true, false, List, length, slice_get, Ok, ◌∙◌, arith}
 use Rattle.std.specs.Int.{cast_signed, w8, w16, w32}
 use Rattle.jvm_code.specs.declared.class.Constant.{Constant}
 use Rattle.jvm_code.specs.declared.class.Op.{Op}
@@ -8,7 +8,7 @@ use Rattle.jvm_code.specs.declared.class.Width.TheVariants as w
 use Rattle.jvm_code.specs.Padding.{pad}
 use Rattle.jvm_code.specs.ReadOps.{loadable, loadable_wide, callable, ldc, ldc_w, ldc2_w, invoke, constant, load, store, simple, branch, padded, offsets, table_switch, pair, pair_count, rises, lookup_switch, widened, wide, control, behind, op}
 use Rattle.jvm_code.specs.Reader.{u1, s1, s2, s4, broken_unless}
-use Rattle.jvm_code.proofs.Moves.{Moved, Moves, chained, number_moved, moves_done, moves_outside, moves_then, moves_as, moves_number, moves_field, moves_if, moves_times, moves_padding}
+use Rattle.jvm_code.proofs.Moves.{Moves, chained, number_moved, moves_done, moves_outside, moves_then, moves_as, moves_number, moves_field, moves_if, moves_times, moves_padding}
 
 moves_s1 : Moves s1
 moves_s1 = moves_as (cast_signed w8) (moves_number 1)

@@ -1,5 +1,5 @@
 -- What is read tells the bytes that were read.
-use Rattle.std.proofs.Common.{◌≡◌, ℕ, zero, suc, ◌+◌, ◌*◌, ◌<◌, ◌≤◌, ◌^◌, nat_le, nat_eq, Bool, true, false, if◌then◌else◌, ℤ, List, [], ◌∷◌, ◌++◌, length, take, drop, slice_index, Result, Ok, Err, refl, sym, ap, ◌∙◌, subst, append_assoc, append-nil, length-append, arith}
+use Rattle.std.proofs.Common.{◌≡◌, ℕ, zero, suc, ◌+◌, ◌<◌, ◌≤◌, ◌^◌, nat_le, nat_eq, Bool, true, false, if◌then◌else◌, ℤ, List, [], ◌∷◌, ◌++◌, length, take, drop, slice_index, Ok, Err, refl, sym, ap, ◌∙◌, subst, append_assoc, length-append, arith}
 use Rattle.std.proofs.lemmas.Bool.{leb-true, eqb-true}
 use Rattle.std.proofs.lemmas.List.{length-take-le, take-append-drop}
 use Rattle.std.proofs.lemmas.Int.{of_z-to_z}
@@ -9,8 +9,8 @@ use Rattle.byteorder.specs.Numbers.{big_from-lt, big_from-take}
 use Rattle.ej_tables.specs.Bytes.{AreBytes, Unread}
 use Rattle.ej_tables.proofs.BytesLaw.{number_taken}
 use Rattle.jvm_code.specs.Fault.{NotClass}
-use Rattle.jvm_code.specs.Reader.{Got, Reader, done, broken, outside, go_on, then_read, read_as, got_at, item, bytes, number, Verdict, Fine, Broken, Forbidden, settled, judged, field, broken_unless, forbidden_unless}
-use Rattle.jvm_code.proofs.Moves.{same_got, Chained, chained}
+use Rattle.jvm_code.specs.Reader.{Got, Reader, done, read_as, got_at, item, bytes, number, Verdict, Fine, Broken, Forbidden, settled, judged, field, broken_unless, forbidden_unless}
+use Rattle.jvm_code.proofs.Moves.{same_got, chained}
 
 -- the front of the bytes was read, up to that offset, and these are left
 pub record Took (at : ℕ) (bs front : List ℕ) (to : ℕ) (rest : List ℕ) : Type 0 where

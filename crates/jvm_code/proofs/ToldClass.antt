@@ -1,5 +1,5 @@
 -- A class that is read tells its bytes.
-use Rattle.std.proofs.Common.{◌≡◌, ℕ, nat_eq, Bool, true, false, bit_and, List, [], ◌∷◌, ◌++◌, length, Ok, Err, refl, sym, ap, ◌∙◌, append_assoc, append-nil}
+use Rattle.std.proofs.Common.{◌≡◌, ℕ, nat_eq, bit_and, List, [], ◌∷◌, ◌++◌, length, Ok, Err, refl, sym, ap, ◌∙◌, append_assoc, append-nil}
 use Rattle.std.proofs.lemmas.Bool.{eqb-true}
 use Rattle.std.specs.List.{flat_map}
 use Rattle.byteorder.specs.Endian.{big_bytes}
@@ -11,10 +11,10 @@ use Rattle.jvm_code.specs.Entries.{class_at}
 use Rattle.jvm_code.specs.Names.{is_class_name}
 use Rattle.jvm_code.specs.ReadClass.{none, methods, text_that, magic, major, version, class_flags, this, is_object, above, class_of, members, class_with, class_file, ended, read_class}
 use Rattle.jvm_code.specs.ReadPool.{constant_pool}
-use Rattle.jvm_code.specs.Reader.{Got, done, then_read, read_as, u2, u4, Verdict, Fine, field, broken_unless, forbidden_unless}
+use Rattle.jvm_code.specs.Reader.{Got, then_read, read_as, u2, u4, Verdict, field, broken_unless, forbidden_unless}
 use Rattle.jvm_code.specs.Spelling.{constant_bytes, method_bytes, class_bytes}
-use Rattle.jvm_code.proofs.Moves.{Chained, chained}
-use Rattle.jvm_code.proofs.Told.{Took, Made, made, took_both, took_as, number_told, field_told, sound}
+use Rattle.jvm_code.proofs.Moves.{chained}
+use Rattle.jvm_code.proofs.Told.{Took, made, took_both, took_as, number_told, field_told, sound}
 use Rattle.jvm_code.proofs.ToldMethods.{known_told, methods_told}
 use Rattle.jvm_code.proofs.ToldPool.{pool_told}
 

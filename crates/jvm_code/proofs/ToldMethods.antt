@@ -1,5 +1,5 @@
 -- Methods that are read tell their bytes.
-use Rattle.std.proofs.Common.{◌≡◌, ℕ, zero, suc, ◌+◌, ◌<◌, ◌≤◌, nat_eq, nat_le, nat_lt, ◌&&◌, ◌||◌, Bool, true, false, cond, List, [], ◌∷◌, ◌++◌, length, take, drop, codes, Option, None, Some, Result, Ok, Err, refl, sym, ap, ◌∙◌, subst, append_assoc, append-nil, length-append, arith}
+use Rattle.std.proofs.Common.{◌≡◌, ℕ, zero, suc, ◌+◌, ◌≤◌, nat_eq, nat_le, nat_lt, ◌&&◌, ◌||◌, Bool, true, false, cond, List, [], ◌∷◌, ◌++◌, length, take, drop, codes, Option, Some, Result, Ok, Err, refl, sym, ap, ◌∙◌, subst, arith}
 use Rattle.std.proofs.lemmas.Bool.{eqb-true, leb-true}
 use Rattle.std.proofs.lemmas.List.{take-append-drop, length-take-le}
 use Rattle.std.specs.List.{flat_map}
@@ -14,10 +14,10 @@ use Rattle.jvm_code.specs.Fault.{Fault, NotClass}
 use Rattle.jvm_code.specs.Names.{is_method_name}
 use Rattle.jvm_code.specs.ReadClass.{Content, none, is_text, code_length, instructions, map_name, map, counted_maps, map_count, maps, content, text_that, attribute_count, code_name, attribute, method_flags, method_name, descriptor, descriptor_that, is_taken, name_of, method_of, method, methods}
 use Rattle.jvm_code.specs.ReadOps.{op, onto, and_more, ops, closed, code}
-use Rattle.jvm_code.specs.Reader.{Got, Reader, done, go_on, then_read, read_as, bytes, u2, u4, number, Verdict, Fine, field, broken_unless, forbidden_unless, sized_as, sized}
-use Rattle.jvm_code.specs.Spelling.{op_bytes, code_bytes, counted, maps_bytes, code_content, method_bytes}
-use Rattle.jvm_code.proofs.Moves.{same_got, Chained, chained}
-use Rattle.jvm_code.proofs.Told.{Took, front_bytes, behind_bytes, Made, made, took_nothing, took_both, took_as, number_told, bytes_told, field_told, fine_eq, fine_le}
+use Rattle.jvm_code.specs.Reader.{Got, then_read, read_as, bytes, u2, u4, Verdict, field, broken_unless, forbidden_unless, sized_as, sized}
+use Rattle.jvm_code.specs.Spelling.{op_bytes, code_bytes, counted, maps_bytes, method_bytes}
+use Rattle.jvm_code.proofs.Moves.{same_got, chained}
+use Rattle.jvm_code.proofs.Told.{Took, front_bytes, behind_bytes, made, took_nothing, took_both, took_as, number_told, bytes_told, field_told, fine_eq, fine_le}
 use Rattle.jvm_code.proofs.ToldOps.{op_told}
 
 abbrev Ops : Type 0

@@ -1,8 +1,8 @@
 -- Instructions that are read tell their bytes.
-use Rattle.std.proofs.Common.{◌≡◌, ℕ, zero, suc, ◌+◌, ◌-◌, ◌<◌, ◌≤◌, ◌^◌, ◌%◌, ℤ, pos, negsuc, ◌+ℤ◌, ◌-ℤ◌, nat_abs, nat_eq, nat_le, nat_lt, int_le, int_lt, ◌&&◌, Bool, true, false, List, [], ◌∷◌, ◌++◌, length, replicate, slice_get, Result, Ok, Err, refl, sym, ap, ◌∙◌, subst, append_assoc, append-nil, arith}
+use Rattle.std.proofs.Common.{◌≡◌, ℕ, zero, suc, ◌+◌, ◌-◌, ◌<◌, ◌^◌, ℤ, pos, ◌+ℤ◌, ◌-ℤ◌, nat_abs, nat_eq, nat_le, nat_lt, int_le, ◌&&◌, true, false, List, [], ◌∷◌, ◌++◌, length, replicate, slice_get, Ok, refl, sym, ap, ◌∙◌, subst, append-nil, arith}
 use Rattle.std.proofs.lemmas.Bool.{eqb-true, leb-true, and_parts}
 use Rattle.std.proofs.lemmas.Int.{ints}
-use Rattle.std.specs.Int.{cast_signed, cast_unsigned, w8, w16, w32}
+use Rattle.std.specs.Int.{cast_unsigned, w8}
 use Rattle.std.specs.List.{flat_map}
 use Rattle.byteorder.specs.Endian.{big_bytes}
 use Rattle.ej_tables.specs.Bytes.{AreBytes}
@@ -12,11 +12,11 @@ use Rattle.jvm_code.specs.declared.class.Op.TheVariants as o
 use Rattle.jvm_code.specs.declared.class.Width.TheVariants as w
 use Rattle.jvm_code.specs.Padding.{pad}
 use Rattle.jvm_code.specs.ReadOps.{loadable, loadable_wide, callable, ldc, ldc_w, ldc2_w, invoke, constant, load, store, simple, branch, padded, offsets, table_switch, pair, pair_count, rises, lookup_switch, widened, wide, control, behind, op}
-use Rattle.jvm_code.specs.Reader.{Got, Reader, done, outside, go_on, then_read, read_as, u1, u2, u4, s1, s2, s4, field, broken_unless, forbidden_unless, Verdict, Fine, Forbidden, times, padding, pad_byte}
+use Rattle.jvm_code.specs.Reader.{Got, Reader, done, outside, then_read, read_as, u1, u2, u4, s1, s2, s4, field, broken_unless, forbidden_unless, Verdict, times, padding, pad_byte}
 use Rattle.jvm_code.specs.Spelling.{op_bytes, local_bytes, high_of, pair_bytes}
 use Rattle.jvm_code.specs.Spelling as spell
-use Rattle.jvm_code.proofs.Moves.{same_got, Chained, chained}
-use Rattle.jvm_code.proofs.Told.{Took, Made, made, took_nothing, took_both, took_as, number_told, s1_told, s2_told, s4_told, field_told, chosen, fine_eq, sound}
+use Rattle.jvm_code.proofs.Moves.{same_got, chained}
+use Rattle.jvm_code.proofs.Told.{Took, made, took_nothing, took_both, took_as, number_told, s1_told, s2_told, s4_told, field_told, chosen, fine_eq, sound}
 
 -- what stands behind an opcode at that place of the code is the rest of what is spelled
 record Tail (pc : ℕ) (y : Op) (tag at : ℕ) (bs : List ℕ) (to : ℕ) (rest : List ℕ) : Type 0 where

@@ -1,5 +1,5 @@
 -- A pool that is read tells its bytes.
-use Rattle.std.proofs.Common.{◌≡◌, ℕ, zero, suc, ◌+◌, ◌<◌, nat_eq, nat_le, Bool, true, false, not, List, [], ◌∷◌, ◌++◌, length, Option, None, Some, Ok, Err, refl, sym, ap, ◌∙◌, subst, append_assoc, arith}
+use Rattle.std.proofs.Common.{◌≡◌, ℕ, zero, suc, nat_eq, Bool, true, false, not, List, [], ◌∷◌, ◌++◌, length, Option, None, Some, Ok, Err, refl, sym, ap, ◌∙◌}
 use Rattle.std.proofs.lemmas.Bool.{eqb-true}
 use Rattle.std.specs.Int.{cast_unsigned, w32, w64}
 use Rattle.std.specs.List.{flat_map}
@@ -9,10 +9,10 @@ use Rattle.jvm_code.specs.declared.class.Constant.{Constant}
 use Rattle.jvm_code.specs.declared.class.Constant.TheVariants as c
 use Rattle.jvm_code.specs.ModifiedUtf8.{is_modified_utf8}
 use Rattle.jvm_code.specs.ReadPool.{is_other_tag, modified_text, long, methodref, name_and_type, other, constant, entry, is_long, next_entry, entries, first_wrong, unless_wrong, referred, indexed, constant_pool}
-use Rattle.jvm_code.specs.Reader.{Got, Reader, done, broken, outside, go_on, then_read, read_as, bytes, u1, u2, s4, s8, number, field, broken_unless}
+use Rattle.jvm_code.specs.Reader.{Got, broken, outside, then_read, read_as, bytes, u1, u2, s4, s8, field, broken_unless}
 use Rattle.jvm_code.specs.Spelling.{constant_bytes}
-use Rattle.jvm_code.proofs.Moves.{same_got, Chained, chained}
-use Rattle.jvm_code.proofs.Told.{Took, Made, made, took_nothing, took_both, took_as, number_told, bytes_told, s4_told, s8_told, field_told, item_told, chosen}
+use Rattle.jvm_code.proofs.Moves.{same_got, chained}
+use Rattle.jvm_code.proofs.Told.{Took, made, took_nothing, took_both, took_as, number_told, bytes_told, s4_told, s8_told, field_told, item_told, chosen}
 
 -- what stands behind a tag is the rest of what is spelled
 record Tail (e : Constant) (tag at : ℕ) (bs : List ℕ) (to : ℕ) (rest : List ℕ) : Type 0 where

@@ -1,7 +1,7 @@
 -- Bytes pass as modified UTF-8 exactly where units are spelled so.
-use Rattle.std.proofs.Common.{◌≡◌, ℕ, zero, suc, ◌+◌, ◌-◌, ◌*◌, ◌/◌, ◌%◌, ◌<◌, ◌≤◌, ◌^◌, nat_eq, nat_le, nat_lt, Bool, true, false, ◌&&◌, if◌then◌else◌, cond, List, [], ◌∷◌, ◌++◌, length, Option, None, Some, refl, sym, ap, ◌∙◌, subst, arith}
+use Rattle.std.proofs.Common.{◌≡◌, ℕ, zero, suc, ◌+◌, ◌-◌, ◌*◌, ◌/◌, ◌%◌, ◌<◌, ◌≤◌, ◌^◌, nat_eq, nat_lt, Bool, true, false, ◌&&◌, if◌then◌else◌, cond, List, [], ◌∷◌, ◌++◌, length, Option, None, Some, refl, sym, ap, ◌∙◌, arith}
 use Rattle.std.proofs.lemmas.Bool.Decides.{nat_tests}
-use Rattle.jvm_code.specs.ModifiedUtf8.{is_in, behind, next, is_some_and, are_units, is_modified_utf8}
+use Rattle.jvm_code.specs.ModifiedUtf8.{is_in, behind, is_some_and, are_units, is_modified_utf8}
 use Rattle.jvm_code.specs.Units.{unit_bytes, units_bytes, AreUnits, UnitsOf}
 
 in_range : (low high b : ℕ) → low ≤ b → b ≤ high → is_in (low, high) b ≡ true

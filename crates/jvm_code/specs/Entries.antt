@@ -1,5 +1,5 @@
 -- What stands at an index of the constant pool (JVMS SE 7, 4.4), where it is an entry of that kind.
-use Rattle.std.specs.Prelude.{ℕ, ℤ, List, [], ◌∷◌, slice_get, Option, None, Some}
+use Rattle.std.specs.Prelude.{ℕ, List, slice_get, Option, None, Some}
 use Rattle.std.specs.Option.{option_and_then}
 use Rattle.jvm_code.specs.declared.class.Constant.{Constant}
 use Rattle.jvm_code.specs.declared.class.Constant.TheVariants as c

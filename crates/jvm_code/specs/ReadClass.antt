@@ -1,6 +1,6 @@
 -- Reading a class (JVMS SE 7, chapter 4), in the profile of version 50.0: the class that bytes stand for, or the first
 -- field that fails, at its first byte.
-use Rattle.std.specs.Prelude.{◌≡◌, ℕ, zero, suc, Bool, true, false, nat_eq, nat_le, nat_lt, not, ◌&&◌, ◌||◌, if◌then◌else◌, bit_and, List, [], ◌∷◌, ◌++◌, codes, Option, None, Some, unwrap_or, Result, Ok, Err}
+use Rattle.std.specs.Prelude.{◌≡◌, ℕ, zero, suc, Bool, false, nat_eq, nat_le, nat_lt, not, ◌&&◌, ◌||◌, if◌then◌else◌, bit_and, List, [], ◌∷◌, ◌++◌, codes, Option, None, Some, unwrap_or, Result, Ok, Err}
 use Rattle.std.specs.List.{list_any}
 use Rattle.std.specs.Str.{bytes_eq}
 use Rattle.ej_tables.specs.Bytes.{AreBytes}

@@ -1,5 +1,5 @@
 -- Readers of bytes: each gives what it read with the offset and the bytes behind it, or the first fault with its offset.
-use Rattle.std.specs.Prelude.{◌≡◌, ℕ, zero, suc, ◌+◌, ◌-◌, nat_eq, nat_le, Bool, true, false, if◌then◌else◌, ℤ, List, [], ◌∷◌, length, take, drop, Result, Ok, Err}
+use Rattle.std.specs.Prelude.{ℕ, zero, suc, ◌+◌, nat_eq, nat_le, Bool, true, false, if◌then◌else◌, ℤ, List, [], ◌∷◌, length, take, drop, Result, Ok, Err}
 use Rattle.std.specs.Int.{cast_signed, w8, w16, w32, w64}
 use Rattle.byteorder.specs.Endian.{big_number}
 use Rattle.jvm_code.specs.Fault.{Fault, NotClass, OutsideProfile}

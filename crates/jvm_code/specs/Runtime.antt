@@ -1,7 +1,7 @@
 -- The table of runtime methods: static methods of the class `erl/Rt`, each with its descriptor (JVMS SE 7, 4.3.3).
-use Rattle.std.specs.Prelude.{ℕ, Bool, if◌then◌else◌, List, [], ◌∷◌, map, codes, Option, None, Some}
+use Rattle.std.specs.Prelude.{ℕ, if◌then◌else◌, List, [], ◌∷◌, map, codes, Option, None, Some}
 use Rattle.std.specs.List.{find}
-use Rattle.std.specs.Option.{option_map, option_and_then}
+use Rattle.std.specs.Option.{option_and_then}
 use Rattle.std.specs.Str.{bytes_eq}
 use Rattle.ej_tables.specs.Rows.{Entry, has_number, number_of}
 

@@ -1,9 +1,7 @@
 -- What is found the same is one.
-use Rattle.std.specs.Prelude.{◌≡◌, ℕ, ℤ, pos, nat_abs, nat_eq, Bool, true, false, ◌&&◌, if◌then◌else◌, List, Option, None, Some}
+use Rattle.std.specs.Prelude.{◌≡◌, ℕ, ℤ, nat_abs, nat_eq, Bool, true, false, ◌&&◌, if◌then◌else◌, List, Option, None, Some}
 use Rattle.std.specs.Bool.{Decides}
 use Rattle.std.specs.Cmp.{IsEquivalence, both_ways}
-use Rattle.std.specs.Cmp.Lexicographic.{pointwise}
-use Rattle.std.specs.Ordering.{int_eq}
 use Rattle.std.specs.Str.{bytes_eq}
 use Rattle.std.proofs.Common.{refl, sym, ap, ◌∙◌, subst}
 use Rattle.std.proofs.lemmas.Bool.Decides.{Decides-eqb, Decides-int_eq, Decides-and}
@@ -17,7 +15,7 @@ use Rattle.jvm_code.specs.declared.class.Width.{Width}
 use Rattle.jvm_code.specs.declared.class.Width.TheVariants as w
 use Rattle.jvm_code.specs.ConstantKey.{same_constant, same_constant_equiv}
 use Rattle.jvm_code.specs.ConstantLaws.{one_constant}
-use Rattle.jvm_code.specs.Same.{numbers, offsets, pairs, same_numbers, same_pair, same_op, same_placed, same_maps, same_head, same_method, same_class}
+use Rattle.jvm_code.specs.Same.{numbers, offsets, pairs, same_numbers, same_pair, same_op, same_placed, same_maps, same_method, same_class}
 
 -- a test that tells what is equal is an equivalence
 tells_equiv : {K : Type 0} {E : K → K → Bool} → ((a b : K) → Decides (E a b) (a ≡ b)) → IsEquivalence E

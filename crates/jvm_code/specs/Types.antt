@@ -1,5 +1,5 @@
 -- Verification types, and when one is assignable to another (JVMS SE 7, 4.10.1.2).
-use Rattle.std.specs.Prelude.{ℕ, Bool, true, false, ◌||◌, List, codes, encode_utf8_all}
+use Rattle.std.specs.Prelude.{Bool, true, false, ◌||◌, codes, encode_utf8_all}
 use Rattle.std.specs.Str.{bytes_eq}
 use Rattle.jvm_code.specs.declared.types.VType.{VType}
 use Rattle.jvm_code.specs.declared.types.VType.TheVariants.{Top, Integer, Long, Null, Class}
