@@ -17,7 +17,7 @@ use Rattle.beam_code.specs.declared.operand.Operand.TheVariants as operand
 use Rattle.beam_code.specs.declared.operand.Src.{Src}
 use Rattle.beam_code.specs.declared.operand.Src.TheVariants as source
 use Rattle.beam_code.specs.declared.operand.TheConstants.{LAST_COUNT}
-use Rattle.beam_code.specs.Fits.{fits}
+use Rattle.beam_code.specs.RowFits.{fits}
 use Rattle.beam_code.specs.Keys.{Key, is_among}
 use Rattle.beam_code.specs.Parts.{Instruction, fitting, FunctionParts, ModuleParts}
 use Rattle.asm_terms.specs.Numbers.{has_64_bits}

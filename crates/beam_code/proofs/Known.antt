@@ -22,7 +22,7 @@ use Rattle.beam_code.specs.declared.operand.Src.{Src}
 use Rattle.beam_code.specs.declared.operand.Src.TheVariants as source
 use Rattle.beam_code.specs.declared.operand.TheConstants.{LAST_COUNT}
 use Rattle.beam_code.specs.Decoded as d
-use Rattle.beam_code.specs.Fits.{fits_part, is_kept, number_behind, first_fits, fits_places, fits_found, fits, is_source, is_count, is_atom, is_target, test_takes, raise_takes}
+use Rattle.beam_code.specs.RowFits.{fits_part, is_kept, number_behind, first_fits, fits_places, fits_found, fits, is_source, is_count, is_atom, is_target, test_takes, raise_takes}
 use Rattle.beam_code.specs.Opcode as o
 use Rattle.beam_code.specs.Seen.{opcode_seen}
 

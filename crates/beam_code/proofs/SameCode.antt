@@ -5,7 +5,7 @@ use Rattle.beam_code.specs.declared.instr.Instr.{Instr}
 use Rattle.beam_code.specs.declared.module.Function.{Function}
 use Rattle.beam_code.specs.declared.module.Module.{Module}
 use Rattle.beam_code.specs.declared.operand.Operand.{Operand}
-use Rattle.beam_code.specs.Fits.{fits}
+use Rattle.beam_code.specs.RowFits.{fits}
 use Rattle.beam_code.specs.Keys.{Key, are_distinct, are_exports}
 
 -- an instruction's proof that it fits its row is the only one

@@ -1,5 +1,5 @@
 pub mod Foreign
-pub mod Fits
+pub mod RowFits
 pub mod Opcode
 pub mod Decoded
 pub mod Seen

@@ -9,7 +9,7 @@ use Rattle.beam_code.specs.declared.operand.Src.{Src}
 use Rattle.beam_code.specs.declared.operand.Src.TheVariants as source
 use Rattle.beam_code.specs.Code.{FunctionCode}
 use Rattle.beam_code.specs.Decoded.{decoded_row}
-use Rattle.beam_code.specs.Fits.{fits}
+use Rattle.beam_code.specs.RowFits.{fits}
 use Rattle.beam_code.specs.Labels.{Break, Twice, Missing, BadEntry, BadArity, first_break}
 use Rattle.beam_code.specs.Opcode as o
 use Rattle.beam_code.specs.Opcode.{Opcode}

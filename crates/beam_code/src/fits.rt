@@ -6,7 +6,7 @@ ghost use Rattle.genop_table.specs.BuiltinRows.{builtin_of};
 ghost use Rattle.genop_table.specs.Builtins.{stands_in_guards as is_guarding};
 ghost use Rattle.genop_table.specs.declared.part.Limit.{Limit as LimitOf};
 ghost use Rattle.beam_code.specs.declared.operand.Operand.TheVariants as operand;
-ghost use Rattle.beam_code.specs.Fits as spec;
+ghost use Rattle.beam_code.specs.RowFits as spec;
 
 use crate::{LAST_COUNT, LAST_REGISTER, Operand, Reg, Src, holds_foreign};
 use genop_table::{BuiltinRow, Limit, Part, Place, Standing, TestArguments};

@@ -1,7 +1,7 @@
 //! One instruction.
 
 ghost use Rattle.std.specs.Prelude.{◌≡◌, true};
-ghost use Rattle.beam_code.specs.Fits.{fits as fits_row_of};
+ghost use Rattle.beam_code.specs.RowFits.{fits as fits_row_of};
 
 use crate::decode::decoded_row;
 use crate::fits::fits;

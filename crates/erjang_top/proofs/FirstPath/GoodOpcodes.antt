@@ -17,7 +17,7 @@ use Rattle.beam_code.specs.declared.operand.Src.{Src}
 use Rattle.beam_code.specs.declared.operand.Src.TheVariants as source
 use Rattle.beam_code.specs.declared.operand.TheConstants.{LAST_COUNT}
 use Rattle.beam_code.specs.Decoded as d
-use Rattle.beam_code.specs.Fits.{fits, fits_found, fits_places, is_register, is_source}
+use Rattle.beam_code.specs.RowFits.{fits, fits_found, fits_places, is_register, is_source}
 use Rattle.beam_code.specs.Opcode as o
 use Rattle.beam_code.proofs.Known.{holds_of_found}
 use Rattle.erjang_top.specs.first_path.Accepted.{is_atom_name}

@@ -13,7 +13,7 @@ use Rattle.beam_code.specs.declared.operand.Operand.TheVariants as operand
 use Rattle.beam_code.specs.declared.operand.Reg.TheVariants as register
 use Rattle.beam_code.specs.declared.operand.Src.{Src}
 use Rattle.beam_code.specs.declared.operand.Src.TheVariants as source
-use Rattle.beam_code.specs.Fits.{fits}
+use Rattle.beam_code.specs.RowFits.{fits}
 use Rattle.erjang_top.specs.first_path.Turn.{beam}
 use Rattle.erjang_top.specs.first_path.ClassTurn.{jvm}
 use Rattle.erjang_top.specs.first_path.ModuleClass.{class_of}

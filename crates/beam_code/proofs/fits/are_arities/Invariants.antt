@@ -1,6 +1,6 @@
 use Rattle.std.proofs.Common.{◌≡◌, drop}
 use Rattle.std.specs.List.{list_all}
-use Rattle.beam_code.specs.Fits.{is_arity}
+use Rattle.beam_code.specs.RowFits.{is_arity}
 use Rattle.beam_code.proofs.fits.are_arities.Given as goal
 
 abbrev pub invariant-loop-size : goal.invariant-loop-size

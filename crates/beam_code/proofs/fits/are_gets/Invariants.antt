@@ -1,6 +1,6 @@
 use Rattle.std.proofs.Common.{◌≡◌, drop}
 use Rattle.std.specs.List.{list_all}
-use Rattle.beam_code.specs.Fits.{is_get}
+use Rattle.beam_code.specs.RowFits.{is_get}
 use Rattle.beam_code.proofs.fits.are_gets.Given as goal
 
 abbrev pub invariant-loop-key : goal.invariant-loop-key

@@ -1,5 +1,5 @@
 use Rattle.std.proofs.Common.{◌≡◌, drop}
-use Rattle.beam_code.specs.Fits as spec
+use Rattle.beam_code.specs.RowFits as spec
 use Rattle.beam_code.proofs.fits.fits_places.Given as goal
 
 -- what the places and operands that are left come to is what all come to
