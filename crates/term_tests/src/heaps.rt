@@ -34,7 +34,7 @@ fn source(alloc: Global, opaque: bool) -> Result<AsmTerm, AllocError> {
 }
 
 // the same by the makers
-#[tactic(auto, using(term_heap::proofs::Kept::held))]
+#[tactic(auto, using(crate::proofs::HeldEach::kept))]
 fn built(heap: &mut Heap) -> Result<TermId, AllocError>
     ensures { IfOk result (λ id. Holds heap.new id) }
 {
@@ -52,7 +52,7 @@ fn built(heap: &mut Heap) -> Result<TermId, AllocError>
 }
 
 #[test]
-#[tactic(auto, using(term_heap::proofs::Kept::held))]
+#[tactic(auto, using(crate::proofs::HeldEach::kept))]
 fn loads_what_the_makers_make(rt: HostRuntime) -> Result<(), Fail> {
     let alloc = rt.alloc();
     let mut heap = Heap::new(alloc);
@@ -103,7 +103,7 @@ fn made(heap: &mut Heap, place: usize) -> Result<TermId, AllocError>
 }
 
 #[test]
-#[tactic(auto, using(term_heap::proofs::Kept::held))]
+#[tactic(auto, using(crate::proofs::HeldEach::kept))]
 fn terms_rise_by_kind_and_value(rt: HostRuntime) -> Result<(), Fail> {
     let mut heap = Heap::new(rt.alloc());
     for place in 0..13 {

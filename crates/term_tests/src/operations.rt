@@ -158,7 +158,7 @@ fn class_name(class: Class3) -> &'static str {
 }
 
 /// The terms of a list, or none where one of them is not loaded.
-#[tactic(auto, using(crate::proofs::HeldEach::held-behind, term_heap::proofs::Kept::keeps-then))]
+#[tactic(auto, using(crate::proofs::HeldEach::held_behind, crate::proofs::HeldEach::kept_twice))]
 fn load_each(
     alloc: Global,
     heap: &mut Heap,
@@ -197,6 +197,7 @@ fn holds(alloc: Global, kind: Kind, row: &AsmTerm) -> Result<bool, AllocError> {
 }
 
 /// Whether of a number and arguments comes what is expected.
+#[tactic(auto, using(crate::proofs::HeldEach::kept))]
 fn is_given(
     alloc: Global,
     kind: Kind,
@@ -205,13 +206,13 @@ fn is_given(
     expected: (&str, &AsmTerm),
 ) -> Result<bool, AllocError> {
     let mut heap = Heap::new(alloc);
+    let Ok(term) = heap.load(expected.1) else {
+        return Ok(false);
+    };
     let Some(args) = load_each(alloc, &mut heap, args)? else {
         return Ok(false);
     };
     let Some(answer) = given(alloc, &mut heap, kind, number, &args)? else {
-        return Ok(false);
-    };
-    let Ok(term) = heap.load(expected.1) else {
         return Ok(false);
     };
     is_answer(alloc, &heap, answer, expected.0, term)
