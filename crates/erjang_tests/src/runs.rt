@@ -235,7 +235,7 @@ const BODY_FAULTS: &str = r#"{jump,{f,9}}. ==> function 0, instruction 3: label 
 return. {'é€',1}. ==> function 0, instruction 4: é€ outside the profile
 {move,{x,0}}. return. ==> function 0, instruction 3: bad instruction
 return. {function,g,0,4}. {label,3}. {line,[]}. {jump,{f,9}}. ==> function 1: bad entry
-{jump,{f,2}}. ==> not built
+{jump,{f,2}}. ==> function 0, instruction 3: not built
 1.5. return. ==> function 0, instruction 3: bad instruction
 [return]. return. ==> function 0, instruction 3: bad instruction
 {}. return. ==> function 0, instruction 3: bad instruction
@@ -250,33 +250,39 @@ send_after. return. ==> function 0, instruction 3: send_after outside the profil
 {test,is_foo}. return. ==> function 0, instruction 3: is_foo outside the profile
 {test,1,{f,2},[{x,0}]}. return. ==> function 0, instruction 3: bad instruction
 {test,is_atom,{f,0},[{x,0}]}. return. ==> function 0, instruction 3: bad instruction
-{test,has_map_fields,{f,2},{x,0},{list,[{atom,a}]}}. return. ==> not built
+{test,has_map_fields,{f,2},{x,0},{list,[{atom,a}]}}. return. ==> function 0, instruction 3: not built
 {test,has_map_fields,{f,2},[{x,0}]}. return. ==> function 0, instruction 3: bad instruction
-{test,is_integer,{f,2},[{x,0}]}. return. ==> not built
+{test,is_integer,{f,2},[{x,0}]}. return. ==> function 0, instruction 3: not built
 {test,is_integer,{f,2},[{x,0},{x,1}]}. return. ==> function 0, instruction 3: bad instruction
-{test,test_arity,{f,2},[{x,0},2]}. return. ==> not built
+{test,test_arity,{f,2},[{x,0},2]}. return. ==> function 0, instruction 3: not built
 {test,test_arity,{f,2},[{x,0},{integer,2}]}. return. ==> function 0, instruction 3: bad instruction
-{test,is_tagged_tuple,{f,2},[{x,0},2,{atom,a}]}. return. ==> not built
+{test,is_tagged_tuple,{f,2},[{x,0},2,{atom,a}]}. return. ==> function 0, instruction 3: not built
 {test,is_tagged_tuple,{f,2},[{x,0},2,a]}. return. ==> function 0, instruction 3: bad instruction
 {bif,foo,{f,0},5,{x,0}}. return. ==> function 0, instruction 3: foo outside the profile
 {bif,foo}. return. ==> function 0, instruction 3: foo outside the profile
 {bif,self,{f,0},5,{x,0}}. return. ==> function 0, instruction 3: bad instruction
-{bif,self,{f,0},[],{x,0}}. return. ==> not built
+{bif,self,{f,0},[],{x,0}}. return. ==> function 0, instruction 3: not built
 {bif,self,{f,0},[{x,0}],{x,0}}. return. ==> function 0, instruction 3: self outside the profile
 {bif,hd,{f,0},"",{x,0}}. return. ==> function 0, instruction 3: hd outside the profile
 {bif,max,{f,0},[{x,0},{x,1}],{x,0}}. return. ==> function 0, instruction 3: max outside the profile
-{bif,raise,{f,0},[{x,2},{x,1}],{x,0}}. return. ==> not built
+{bif,raise,{f,0},[{x,2},{x,1}],{x,0}}. return. ==> function 0: undefined slot
 {bif,raise,{f,0},[{x,2},{x,1},{x,0}],{x,0}}. return. ==> function 0, instruction 3: raise outside the profile
 {bif,raise,{f,0},5,{x,0}}. return. ==> function 0, instruction 3: bad instruction
 {bif,raise,{f,1},[{x,2},{x,1}],{x,0}}. return. ==> function 0, instruction 3: bad instruction
 {gc_bif,raise,{f,0},0,[{x,2},{x,1}],{x,0}}. return. ==> function 0, instruction 3: raise outside the profile
-{gc_bif,length,{f,0},1024,[{x,0}],{x,0}}. return. ==> not built
+{gc_bif,length,{f,0},1024,[{x,0}],{x,0}}. return. ==> function 0, instruction 3: not built
 {gc_bif,length,{f,0},1025,[{x,0}],{x,0}}. return. ==> function 0, instruction 3: bad instruction
 {gc_bif,length,{f,0},1,[{x,0},{x,1}],{x,0}}. return. ==> function 0, instruction 3: length outside the profile
 {return}. return. ==> function 0, instruction 3: bad instruction
 badmatch. return. ==> function 0, instruction 3: bad instruction
 {move,{x,1024},{x,0}}. return. ==> function 0, instruction 3: bad instruction
-{move,{x,1023},{x,0}}. return. ==> not built
+{move,{x,1023},{x,0}}. return. ==> function 0: undefined slot
+{test,is_atom,{f,3},[{x,0}]}. {move,{x,0},{x,3}}. {label,3}. {move,{x,3},{x,0}}. return. ==> function 0: undefined slot
+{allocate,1,1}. {init_yregs,{list,[{y,0}]}}. {test,is_atom,{f,3},[{x,0}]}. {move,{x,0},{y,0}}. {label,3}. {move,{y,0},{x,0}}. {deallocate,1}. return. ==> function 0, instruction 3: not built
+{move,{atom,a},{x,0}}. {label,4}. {line,[]}. {'%',1}. {swap,{x,0},{x,0}}. return. ==> function 0, instruction 7: not built
+{move,{integer,1},{y,0}}. return. ==> function 0: undefined slot
+{move,{literal,[]},{x,0}}. return. {function,g,0,4}. {label,3}. {func_info,{atom,m},{atom,g},0}. {label,4}. return. ==> function 1: undefined slot
+return. {function,g,1,4}. {label,3}. {func_info,{atom,m},{atom,g},1}. {label,4}. {move,{literal,[]},{x,0}}. return. ==> function 1, instruction 3: not built
 "#;
 
 #[test]
@@ -349,20 +355,20 @@ fn tells_a_form_that_is_too_deep(rt: HostRuntime) -> Result<(), Fail> {
 const HEAD: &str =
     "{module,m}.\n{exports,[{f,1}]}.\n{attributes,[]}.\n{labels,9}.\n{function,f,1,2}.\n{label,1}.\n{func_info,{atom,m},{atom,f},1}.\n{label,2}.\n";
 
-// The status for that function of these instructions, a line each, and so many more of one behind them.
-fn status_of(
+// What the program answers to that function of these instructions, a line each, and so many more of one behind them.
+fn answer_to(
     alloc: Global,
     instructions: &str,
     more: usize,
     instruction: &str,
-) -> Result<u8, AllocError> {
+) -> Result<Ran, AllocError> {
     let mut source = String::from_str(alloc, HEAD)?;
     source.push_str(instructions)?;
     for _at in 0..more {
         source.push_str(instruction)?;
     }
     let words = ["compile", "o", NAME];
-    Ok(run(alloc, &words, source.as_bytes(), Vec::new(alloc))?.status)
+    run(alloc, &words, source.as_bytes(), Vec::new(alloc))
 }
 
 #[test]
@@ -411,25 +417,43 @@ fn compiles_what_holds_its_terms(rt: HostRuntime) -> Result<(), Fail> {
         ("{move,{y,0},{x,0}}.\nreturn.\n", 1),
     ];
     for (instructions, status) in bodies {
-        let ended = status_of(rt.alloc(), instructions, 0, "")?;
-        assert_eq!(rt; ended, status, "{instructions}");
+        let ran = answer_to(rt.alloc(), instructions, 0, "")?;
+        assert_eq!(rt; ran.status, status, "{instructions}");
     }
     Ok(())
 }
 
-// A function of one argument weighs 64, 12 and 32 for its `func_info`; each weight of these instructions is even.
+// A function of one argument weighs 64, 12 and 32 for its `func_info`, a move 10 and a return 16.
 #[test]
 fn weighs_a_function(rt: HostRuntime) -> Result<(), Fail> {
-    let alloc = rt.alloc();
-    let two = "{func_info,{atom,m},{atom,g},1}.\nreturn.\nreturn.\n";
-    // 108, 64 and 3,259 moves of 10 are 32,762
-    assert_eq!(rt; status_of(alloc, two, 3259, "{move,nil,{x,0}}.\n")?, 0);
-    // and one more 32,772
-    assert_eq!(rt; status_of(alloc, two, 3260, "{move,nil,{x,0}}.\n")?, 1);
-    let four = "return.\nreturn.\nreturn.\nreturn.\n";
-    // 108, 64 and 2,037 returns of 16 are 32,764; 2,038 are 32,780
-    assert_eq!(rt; status_of(alloc, four, 2037, "return.\n")?, 0);
-    assert_eq!(rt; status_of(alloc, four, 2038, "return.\n")?, 1);
+    let returns = "return.\nreturn.\nreturn.\nreturn.\n";
+    let rows: [(&str, usize, &str, &str); 4] = [
+        // 108, 64 and 3,259 moves are 32,762, and one more 32,772
+        (returns, 3259, "{move,nil,{x,0}}.\n", ""),
+        (
+            returns,
+            3260,
+            "{move,nil,{x,0}}.\n",
+            "m.S: function 0: weight 32772 above 32767\n",
+        ),
+        // a swap of 16 and 2,040 returns are 32,764, and 2,041 are 32,780; what is not built is looked at behind that
+        (
+            "{swap,{x,0},{x,0}}.\n",
+            2040,
+            "return.\n",
+            "m.S: function 0, instruction 3: not built\n",
+        ),
+        (
+            "{swap,{x,0},{x,0}}.\n",
+            2041,
+            "return.\n",
+            "m.S: function 0: weight 32780 above 32767\n",
+        ),
+    ];
+    for (instructions, more, instruction, said) in rows {
+        let ran = answer_to(rt.alloc(), instructions, more, instruction)?;
+        assert_eq!(rt; ran.err.taken(), said.as_bytes());
+    }
     Ok(())
 }
 

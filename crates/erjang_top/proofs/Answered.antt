@@ -7,7 +7,7 @@ use Rattle.erjang_top.specs.declared.fault.Fault.{Fault}
 use Rattle.erjang_top.specs.declared.fault.Fault.TheVariants as fault
 use Rattle.erjang_top.specs.declared.fault.Stopped.{Stopped}
 use Rattle.erjang_top.specs.declared.fault.Stopped.TheVariants as stopped
-use Rattle.erjang_top.specs.Answers.{Refusal, Absent, Longer, OfSource, SameModule, Blame, First, Refused, ReadFailed, Unchanged, Compiled, PutFailed, Told, SameCounts, TookAll, TookFront, Quiet, status_of, line, message, Answers}
+use Rattle.erjang_top.specs.Answers.{Refusal, Absent, Longer, OfSource, NotBuilt, SameModule, Blame, First, Refused, ReadFailed, Unchanged, Compiled, PutFailed, Told, SameCounts, TookAll, TookFront, Quiet, status_of, line, message, Answers}
 use Rattle.erjang_top.specs.Words.{Compile}
 use Rattle.erjang_top.proofs.OneFirst.{one_first}
 use Rattle.erjang_top.specs.Work.{WorkStops, Works, RefusesFor, ReportsAt, Reports}
@@ -135,6 +135,7 @@ answer_at w file fault.Absent status old new err err' p (inr cut) = answer_write
 answer_at w file fault.Longer status old new err err' p (inl said) = answer_refused w (blame_at file Longer) status old new err err' said.0 p said.1
 answer_at w file fault.Longer status old new err err' p (inr cut) = answer_write_failed w status old new err err' cut.0 (inl (blame_at file Longer, p, cut.1))
 answer_at w file (fault.Refused cause) status old new err err' p q = answer_said w (blame_at file (OfSource cause)) status old new err err' p p.counted q
+answer_at w file (fault.NotBuilt func index) status old new err err' p q = answer_said w (blame_at file (NotBuilt func index)) status old new err err' p p.counted q
 answer_at w file (fault.SameModule earlier) status old new err err' p q = answer_said w (blame_at file (SameModule earlier)) status old new err err' p p.counted q
 answer_at w file fault.ReadFailed status old new err err' p (inl said) = answer_read_failed w file status old new err err' said.0 p said.1
 answer_at w file fault.ReadFailed status old new err err' p (inr cut) = answer_write_failed w status old new err err' cut.0 (inr (inl (file, p, cut.1)))

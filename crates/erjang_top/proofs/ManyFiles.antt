@@ -14,7 +14,7 @@ use Rattle.erjang_top.specs.declared.fault.Fault.{Fault}
 use Rattle.erjang_top.specs.declared.fault.Fault.TheVariants as fault
 use Rattle.erjang_top.specs.declared.fault.Stopped.{Stopped}
 use Rattle.erjang_top.specs.declared.fault.Stopped.TheVariants as stopped
-use Rattle.erjang_top.specs.Answers.{Refusal, Absent, Longer, OfSource, Blame, IsOf, IsGood, IsBad, StopsAt, First, first_twice, Reached, Counted, Refused, Put, put_each, ArePuts, Compiled, PutFailed, Told, SameCounts, class_file, longest_file}
+use Rattle.erjang_top.specs.Answers.{Refusal, Absent, Longer, OfSource, NotBuilt, Blame, IsOf, IsGood, IsBad, StopsAt, First, first_twice, Reached, Counted, Refused, Put, put_each, ArePuts, Compiled, PutFailed, Told, SameCounts, class_file, longest_file}
 use Rattle.erjang_top.specs.Sources.{IsSource}
 use Rattle.erjang_top.specs.Words.{Compile}
 use Rattle.erjang_top.specs.Work.{IsClassOf, IsBuilt, FileFails, FileIsBad, StopsWith, AllStop, WorkStops, Works, PutsSome, PutsAll, modules_of, puts_of, twice_at}
@@ -71,7 +71,7 @@ found held outdir (name ∷ names) (class ∷ classes) p =
       named = ap₂ (λ (n : List ℕ) (ns : List (List ℕ)). n ∷ ns) c.named rest.named;
       emitted = (c.emitted, rest.emitted);
       spelled = (c.spelled, rest.spelled);
-      accepted = (c.is_source.1, rest.accepted);
+      accepted = (c.accepted, rest.accepted);
     }
 
 pub all_good : (held : Files) (outdir : List ℕ) (names : List (List ℕ)) (classes : List ReadyClass) → AllZip (IsBuilt held outdir) names classes → AllByRecursion (IsGood held) names
@@ -146,6 +146,7 @@ pub work_stops : (w : Compile) (file : List ℕ) (f : Fault) (old new : ShelfSta
 work_stops w file fault.Absent old new s = bad_refused w file Absent old new s.reached s.fails
 work_stops w file fault.Longer old new s = bad_refused w file Longer old new s.reached s.fails
 work_stops w file (fault.Refused cause) old new s = bad_refused w file (OfSource cause) old new s.reached s.fails
+work_stops w file (fault.NotBuilt func index) old new s = bad_refused w file (NotBuilt func index) old new s.reached s.fails
 work_stops w file (fault.SameModule earlier) old new s = absurd s.fails
 work_stops w file fault.ReadFailed old new s = record { reached = s.reached; counted = s.fails }
 work_stops w file fault.NoMemory old new s = s.fails

@@ -1,33 +1,24 @@
 -- A command is refused for one file and cause first, or for none.
-use Rattle.std.proofs.Common.{◌≡◌, ℕ, ◌<◌, ◌≤◌, ◌⊎◌, inl, inr, List, [], ◌∷◌, length, Option, None, Some, IsSomeAnd, refl, sym, ap, ap₂, ◌∙◌, subst, map, arith}
+use Rattle.std.proofs.Common.{◌≡◌, ℕ, ◌<◌, ◌≤◌, ◌⊎◌, inl, inr, true, List, [], ◌∷◌, length, Option, None, Some, IsSomeAnd, refl, sym, ap, ap₂, ◌∙◌, subst, map, arith}
 use Rattle.std.specs.FinMap as files
 use Rattle.std.specs.List.{AllZip}
-use Rattle.asm_terms.specs.Forms.{AreForms, FirstFault, Cause}
-use Rattle.asm_terms.specs.Forms as text
-use Rattle.asm_terms.specs.declared.fault.TextFault.{TextFault}
-use Rattle.asm_terms.specs.declared.fault.TextFault.TheVariants as text_fault
-use Rattle.ej_term.specs.declared.asm_term.AsmTerm.{AsmTerm}
-use Rattle.label_check.specs.declared.fault.LabelFault.{LabelFault}
-use Rattle.label_check.specs.declared.fault.LabelFault.TheVariants as label_fault
-use Rattle.label_check.specs.Told.{break_of}
 use Rattle.beam_code.specs.declared.module.Module.{Module}
-use Rattle.beam_code.specs.Labels as labels
-use Rattle.beam_code.specs.Labels.{Break}
 use Rattle.ej_outside.specs.Shelf.{Files}
-use Rattle.erjang_top.specs.declared.fault.SourceFault.{SourceFault}
-use Rattle.erjang_top.specs.declared.fault.SourceFault.TheVariants.{Text, Form, Label, NotBuilt}
-use Rattle.erjang_top.specs.first_path.Accepted.{Accepted}
-use Rattle.erjang_top.specs.Answers.{Refusal, Absent, Longer, OfSource, SameModule, Blame, IsOf, IsGood, IsBad, StopsAt, AllRead, First, first_twice, longest_file}
-use Rattle.erjang_top.specs.Sources.{IsSource, HasBreak, HasTextFault, HasCause}
+use Rattle.erjang_compile.specs.declared.fault.SourceFault.{SourceFault}
+use Rattle.erjang_compile.specs.Faults.{HasFault}
+use Rattle.erjang_compile.proofs.OneAnswer.{one_answer}
+use Rattle.erjang_top.specs.Answers.{Refusal, Absent, Longer, OfSource, NotBuilt, SameModule, Blame, IsOf, IsGood, IsBad, StopsAt, AllRead, First, first_twice, longest_file}
+use Rattle.erjang_top.specs.Sources.{IsSource, IsNotBuilt}
 use Rattle.erjang_top.specs.Words.{Compile}
-use Rattle.erjang_top.proofs.Reading.{reads_wholly, same_fault}
-use Rattle.erjang_top.proofs.OneSource.{one_module, one_form_fault, one_break, fault_or_break, fault_or_module, break_or_module}
+use Rattle.erjang_top.specs.first_path.Built.{FirstUnbuilt}
+use Rattle.erjang_top.proofs.FirstPath.BuiltLaw.{none_unbuilt, one_unbuilt as one_place}
 
 -- what is first wrong with a file, if anything
 data Verdict : Type 0 where
   NotHeld : Verdict
   TooLong : Verdict
   Bad : (fault : SourceFault) → Verdict
+  Unbuilt : (func index : ℕ) → Verdict
   Good : Verdict
 
 -- the refusal of a verdict
@@ -35,96 +26,43 @@ abbrev refusal_in : Verdict → Option Refusal
 refusal_in NotHeld = Some Absent
 refusal_in TooLong = Some Longer
 refusal_in (Bad fault) = Some (OfSource fault)
+refusal_in (Unbuilt func index) = Some (NotBuilt func index)
 refusal_in Good = None
 
 -- a verdict's cause in bytes that are not too many
 abbrev CauseIn : List ℕ → Verdict → Type 0
 CauseIn bytes NotHeld = ⊥
 CauseIn bytes TooLong = ⊥
-CauseIn bytes (Bad fault) = HasCause bytes fault
+CauseIn bytes (Bad fault) = HasFault true bytes fault
+CauseIn bytes (Unbuilt func index) = IsNotBuilt bytes func index
 CauseIn bytes Good = (m : Module) × IsSource bytes m
 
--- the fault of a text at a form, and that of a break
-abbrev text_fault_of : ℕ → Cause → TextFault
-text_fault_of form text.BadText = text_fault.BadText form
-text_fault_of form text.TooDeep = text_fault.TooDeep form
+-- what is accepted and not compiled so far is one instruction of one module
+one_unbuilt : (bytes : List ℕ) (func index other_func other_index : ℕ) → IsNotBuilt bytes func index → IsNotBuilt bytes other_func other_index
+    → Unbuilt func index ≡ Unbuilt other_func other_index
+one_unbuilt bytes func index other_func other_index p q =
+    let same = one_place p.read func index other_func other_index p.first
+        (subst (λ m. FirstUnbuilt m other_func other_index) ((one_answer true bytes).same_module q.read p.read q.accepted p.accepted) q.first) in
+    ap₂ (λ (f : ℕ) (i : ℕ). Unbuilt f i) same.0 same.1
 
-abbrev label_fault_of : Break → LabelFault
-label_fault_of (labels.Twice label) = label_fault.Twice label
-label_fault_of (labels.Missing func index label) = label_fault.Missing func index label
-label_fault_of (labels.BadEntry func) = label_fault.BadEntry func
-label_fault_of (labels.BadArity func index) = label_fault.BadArity func index
-
--- a fault of a text, as the reader of texts counts it
-record TextFirst (bytes : List ℕ) (fault : TextFault) : Type 0 where
-  form : ℕ
-  cause : Cause
-  first : FirstFault bytes form cause
-  is : fault ≡ text_fault_of form cause
-
-text_first : (bytes : List ℕ) (fault : TextFault) → HasTextFault bytes fault → TextFirst bytes fault
-text_first bytes (text_fault.BadText form) p = record { form = form; cause = text.BadText; first = p; is = refl }
-text_first bytes (text_fault.TooDeep form) p = record { form = form; cause = text.TooDeep; first = p; is = refl }
-text_first bytes text_fault.NoMemory p = absurd p
-
--- a fault of labels, as the label rules tell it
-record LabelFirst (bytes : List ℕ) (fault : LabelFault) : Type 0 where
-  broken : Break
-  first : HasBreak bytes broken
-  is : fault ≡ label_fault_of broken
-
-label_first : (bytes : List ℕ) (fault : LabelFault) → IsSomeAnd (break_of fault) (HasBreak bytes) → LabelFirst bytes fault
-label_first bytes (label_fault.Twice label) p = record { broken = labels.Twice label; first = p; is = refl }
-label_first bytes (label_fault.Missing func index label) p = record { broken = labels.Missing func index label; first = p; is = refl }
-label_first bytes (label_fault.BadEntry func) p = record { broken = labels.BadEntry func; first = p; is = refl }
-label_first bytes (label_fault.BadArity func index) p = record { broken = labels.BadArity func index; first = p; is = refl }
-label_first bytes label_fault.NoMemory p = absurd p
-
-same_text : (bytes : List ℕ) (e f : TextFault) → TextFirst bytes e → TextFirst bytes f → e ≡ f
-same_text bytes e f p q =
-    let same = same_fault bytes p.form q.form p.cause q.cause p.first q.first in
-    p.is ∙ ap₂ text_fault_of same.0 same.1 ∙ sym q.is
-
-same_label : (bytes : List ℕ) (e f : LabelFault) → LabelFirst bytes e → LabelFirst bytes f → e ≡ f
-same_label bytes e f p q = p.is ∙ ap label_fault_of (one_break bytes p.broken q.broken p.first q.first) ∙ sym q.is
-
--- what reads as forms has no fault of a text
-no_forms : {G : Type 0} (bytes : List ℕ) (fault : TextFault) (forms : List AsmTerm) → HasTextFault bytes fault → AreForms bytes forms → G
-no_forms bytes fault forms p are = let first = text_first bytes fault p in absurd (reads_wholly bytes forms first.form first.cause are first.first)
-
-one_fault : (bytes : List ℕ) (a b : SourceFault) → HasCause bytes a → HasCause bytes b → a ≡ b
-one_fault bytes (Text e) (Text f) p q = ap (λ e. Text e) (same_text bytes e f (text_first bytes e p) (text_first bytes f q))
-one_fault bytes (Text e) (Form f) p q = no_forms bytes e q.forms p q.are_forms
-one_fault bytes (Text e) (Label f) p q = let l = label_first bytes f q in no_forms bytes e l.first.forms p l.first.are_forms
-one_fault bytes (Text e) NotBuilt p q = no_forms bytes e q.1.forms p q.1.are_forms
-one_fault bytes (Form e) (Text f) p q = no_forms bytes f p.forms q p.are_forms
-one_fault bytes (Form e) (Form f) p q = ap (λ f. Form f) (one_form_fault bytes e f p q)
-one_fault bytes (Form e) (Label f) p q = let l = label_first bytes f q in fault_or_break bytes e l.broken p l.first
-one_fault bytes (Form e) NotBuilt p q = fault_or_module bytes e q.0 p q.1
-one_fault bytes (Label e) (Text f) p q = let l = label_first bytes e p in no_forms bytes f l.first.forms q l.first.are_forms
-one_fault bytes (Label e) (Form f) p q = let l = label_first bytes e p in fault_or_break bytes f l.broken q l.first
-one_fault bytes (Label e) (Label f) p q = ap (λ l. Label l) (same_label bytes e f (label_first bytes e p) (label_first bytes f q))
-one_fault bytes (Label e) NotBuilt p q = let l = label_first bytes e p in break_or_module bytes l.broken q.0 l.first q.1
-one_fault bytes NotBuilt (Text f) p q = no_forms bytes f p.1.forms q p.1.are_forms
-one_fault bytes NotBuilt (Form f) p q = fault_or_module bytes f p.0 q p.1
-one_fault bytes NotBuilt (Label f) p q = let l = label_first bytes f q in break_or_module bytes l.broken p.0 l.first p.1
-one_fault bytes NotBuilt NotBuilt p q = refl
-
--- the source of a module that is compiled has no cause to be refused
-not_good : {G : Type 0} (bytes : List ℕ) (fault : SourceFault) (m : Module) → HasCause bytes fault → IsSource bytes m → G
-not_good bytes (Text f) m p q = no_forms bytes f q.0.forms p q.0.are_forms
-not_good bytes (Form f) m p q = fault_or_module bytes f m p q.0
-not_good bytes (Label f) m p q = let l = label_first bytes f p in break_or_module bytes l.broken m l.first q.0
-not_good bytes NotBuilt m p q = absurd (p.2 (subst Accepted (one_module bytes m p.0 q.0 p.1) q.1))
+-- of a module that is compiled every instruction is
+not_unbuilt : {G : Type 0} (bytes : List ℕ) (func index : ℕ) (m : Module) → IsNotBuilt bytes func index → IsSource bytes m → G
+not_unbuilt bytes func index m p q =
+    absurd (none_unbuilt m func index q.built (subst (λ n. FirstUnbuilt n func index) ((one_answer true bytes).same_module p.read m p.accepted q.accepted) p.first))
 
 one_cause : (bytes : List ℕ) (a b : Verdict) → CauseIn bytes a → CauseIn bytes b → a ≡ b
 one_cause bytes NotHeld b p q = absurd p
 one_cause bytes TooLong b p q = absurd p
 one_cause bytes a NotHeld p q = absurd q
 one_cause bytes a TooLong p q = absurd q
-one_cause bytes (Bad e) (Bad f) p q = ap (λ e. Bad e) (one_fault bytes e f p q)
-one_cause bytes (Bad e) Good p q = not_good bytes e q.0 p q.1
-one_cause bytes Good (Bad f) p q = not_good bytes f p.0 q p.1
+one_cause bytes (Bad e) (Bad f) p q = ap (λ e. Bad e) ((one_answer true bytes).same_fault e f p q)
+one_cause bytes (Bad e) (Unbuilt func index) p q = absurd ((one_answer true bytes).not_both q.read e q.accepted p)
+one_cause bytes (Bad e) Good p q = absurd ((one_answer true bytes).not_both q.0 e q.1.accepted p)
+one_cause bytes (Unbuilt func index) (Bad f) p q = absurd ((one_answer true bytes).not_both p.read f p.accepted q)
+one_cause bytes (Unbuilt func index) (Unbuilt other_func other_index) p q = one_unbuilt bytes func index other_func other_index p q
+one_cause bytes (Unbuilt func index) Good p q = not_unbuilt bytes func index q.0 p q.1
+one_cause bytes Good (Bad f) p q = absurd ((one_answer true bytes).not_both p.0 f p.1.accepted q)
+one_cause bytes Good (Unbuilt func index) p q = not_unbuilt bytes func index p.0 q p.1
 one_cause bytes Good Good p q = refl
 
 -- a verdict is that of a file that is absent or has these bytes
@@ -170,6 +108,7 @@ judged : (held : Files) (file : List ℕ) (first : Option Refusal) → Alone hel
 judged held file (Some Absent) p = of_none _ p
 judged held file (Some Longer) p = of_long _ p
 judged held file (Some (OfSource fault)) p = of_bytes _ _ (Bad fault) refl p
+judged held file (Some (NotBuilt func index)) p = of_bytes _ _ (Unbuilt func index) refl p
 judged held file (Some (SameModule earlier)) p = absurd p
 judged held file None p = of_good _ p.0 p.1
 
@@ -224,7 +163,7 @@ stops_or_read held w (Some a) b p q = not_all held w.files q.modules a p q.sourc
 one_of : (o : Option (List ℕ)) (m n : Module)
     → IsSomeAnd o (λ bytes. (length bytes ≤ longest_file) × IsSource bytes m) → IsSomeAnd o (λ bytes. (length bytes ≤ longest_file) × IsSource bytes n) → m ≡ n
 one_of None m n p q = absurd p
-one_of (Some bytes) m n p q = one_module bytes m n p.1.0 q.1.0
+one_of (Some bytes) m n p q = (one_answer true bytes).same_module m n p.1.accepted q.1.accepted
 
 pub same_modules : (held : Files) (files : List (List ℕ)) (ms ns : List Module) → AllZip (IsOf held) files ms → AllZip (IsOf held) files ns → ms ≡ ns
 same_modules held [] [] [] p q = refl

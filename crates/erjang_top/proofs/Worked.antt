@@ -56,11 +56,16 @@ file_not_got file old new fault.Longer g = record {
 file_not_got file old new fault.ReadFailed g = record { contents = g.contents; read_faults = g.read_faults; put_faults = g.put_faults; misses = g.misses; longs = g.longs }
 file_not_got file old new fault.NoMemory g = record { contents = g.contents; read_faults = g.read_faults; put_faults = g.put_faults; misses = g.misses; longs = g.longs }
 file_not_got file old new (fault.Refused cause) g = absurd g
+file_not_got file old new (fault.NotBuilt func index) g = absurd g
 file_not_got file old new (fault.SameModule earlier) g = absurd g
 
 -- the source was read, and is built to no class
 file_not_built : (file source : List ℕ) (old new : ShelfState) (fault : Fault) → Read file source old new → HasFault source fault → FileFails file old fault new
 file_not_built file source old new (fault.Refused cause) r b = record {
+  told = told_map old.held (Source file source) _ r.told (λ held s. held_source file source held _ s.0 (s.1, b));
+  counted = kept file source old new r;
+}
+file_not_built file source old new (fault.NotBuilt func index) r b = record {
   told = told_map old.held (Source file source) _ r.told (λ held s. held_source file source held _ s.0 (s.1, b));
   counted = kept file source old new r;
 }

@@ -1,19 +1,22 @@
 -- What the program answers to each status, what it says, and what stands afterwards.
-use Rattle.std.specs.Prelude.{◌≡◌, ◌≢◌, ℕ, ◌+◌, ◌-◌, ◌^◌, ◌<◌, ◌≤◌, ◌⊎◌, List, [], ◌∷◌, ◌++◌, length, map, take, codes, Option, None, Some, if◌then◌else◌, IfSome, IsSomeAnd}
+use Rattle.std.specs.Prelude.{◌≡◌, ◌≢◌, true, ℕ, ◌+◌, ◌-◌, ◌^◌, ◌<◌, ◌≤◌, ◌⊎◌, List, [], ◌∷◌, ◌++◌, length, map, take, codes, Option, None, Some, if◌then◌else◌, IfSome, IsSomeAnd}
 use Rattle.std.specs.Fmt.{decimal}
 use Rattle.std.specs.List.{AllByRecursion, AllZip, list_any, position_or_len}
 use Rattle.std.specs.Option.{option_map}
 use Rattle.std.specs.Str.{bytes_eq}
 use Rattle.std.specs.FinMap as files
 use Rattle.beam_code.specs.declared.module.Module.{Module}
+use Rattle.beam_code.specs.Places.{instruction_text}
 use Rattle.ej_outside.specs.Counts.{Same, Rises}
 use Rattle.ej_outside.specs.Shelf.{Files, ShelfState, MayReplace}
 use Rattle.ej_outside.specs.Sink.{SinkState}
+use Rattle.erjang_compile.specs.declared.fault.SourceFault.{SourceFault}
+use Rattle.erjang_compile.specs.Faults.{HasFault}
+use Rattle.erjang_compile.specs.Messages.{message as source_message}
 use Rattle.erjang_top.specs.first_path.Emitted.{Emitted}
 use Rattle.erjang_top.specs.first_path.Runs.{TogetherAs}
 use Rattle.erjang_top.specs.Mangle.{mangle}
-use Rattle.erjang_top.specs.declared.fault.SourceFault.{SourceFault}
-use Rattle.erjang_top.specs.Sources.{IsSource, HasCause, fault_text}
+use Rattle.erjang_top.specs.Sources.{IsSource, IsNotBuilt}
 use Rattle.erjang_top.specs.Words.{Compile}
 
 -- the most bytes that a source may have
@@ -32,6 +35,8 @@ pub data Refusal : Type 0 where
   Longer : Refusal
   -- its bytes, which are not too many, are refused
   OfSource : SourceFault → Refusal
+  -- they are those of a module that is accepted, and that instruction of that function is not compiled so far
+  NotBuilt : (func index : ℕ) → Refusal
   -- its module has the name of that of an earlier file, which stands at this place from 1
   SameModule : ℕ → Refusal
 
@@ -55,7 +60,8 @@ IsGood held file = (m : Module) × IsOf held file m
 abbrev pub IsBad : Files → List ℕ → Refusal → Type 0
 IsBad held file Absent = files.get held file ≡ None
 IsBad held file Longer = Held held file (λ bytes. longest_file < length bytes)
-IsBad held file (OfSource fault) = Held held file (λ bytes. (length bytes ≤ longest_file) × HasCause bytes fault)
+IsBad held file (OfSource fault) = Held held file (λ bytes. (length bytes ≤ longest_file) × HasFault true bytes fault)
+IsBad held file (NotBuilt func index) = Held held file (λ bytes. (length bytes ≤ longest_file) × IsNotBuilt bytes func index)
 IsBad held file (SameModule earlier) = ⊥
 
 -- this is the first of the files that is refused by itself
@@ -88,7 +94,8 @@ First held w first = IsSomeAnd first (StopsAt held w.files) ⊎ AllRead held w f
 abbrev pub cause_text : Refusal → List ℕ
 cause_text Absent = codes ": absent"
 cause_text Longer = codes ": longer than 67108864 bytes"
-cause_text (OfSource fault) = codes ": " ++ fault_text fault
+cause_text (OfSource fault) = codes ": " ++ source_message fault
+cause_text (NotBuilt func index) = codes ": " ++ instruction_text func index (codes ": not built")
 cause_text (SameModule earlier) = codes ": same module as file " ++ decimal earlier
 
 -- a line about a file, with its newline
@@ -127,6 +134,7 @@ abbrev pub Counted : Refusal → ShelfState → ShelfState → Type 0
 Counted Absent old new = Unchanged old new Same Rises Same
 Counted Longer old new = Unchanged old new Same Same Rises
 Counted (OfSource fault) old new = Unchanged old new Same Same Same
+Counted (NotBuilt func index) old new = Unchanged old new Same Same Same
 Counted (SameModule earlier) old new = Unchanged old new Same Same Same
 
 -- the file is one of the command's, and where the contents are told each before it is the source of a module

@@ -1,57 +1,45 @@
 -- What the parts of the top call owe: the words, the work and the report.
-use Rattle.std.specs.Prelude.{◌≡◌, ℕ, ◌<◌, ◌≤◌, ◌⊎◌, List, ◌∷◌, ◌++◌, length, map, codes, None, Some, option_map, Result, Ok, Err, IfSome, IsSomeAnd, String, string_bytes}
+use Rattle.std.specs.Prelude.{◌≡◌, ℕ, true, ◌<◌, ◌≤◌, ◌⊎◌, List, ◌∷◌, ◌++◌, length, map, codes, None, Some, option_map, Result, Ok, Err, IfSome, IsSomeAnd, String, string_bytes}
 use Rattle.std.specs.List.{AllZip}
 use Rattle.std.specs.FinMap as files
 use Rattle.beam_code.specs.declared.module.Module.{Module}
-use Rattle.asm_terms.specs.declared.fault.TextFault.{TextFault}
-use Rattle.asm_terms.specs.declared.fault.TextFault.TheVariants as text_fault
-use Rattle.asm_module.specs.declared.fault.FormFault.{FormFault}
-use Rattle.asm_module.specs.declared.fault.FormFault.TheVariants as form_fault
-use Rattle.label_check.specs.declared.fault.LabelFault.{LabelFault}
-use Rattle.label_check.specs.declared.fault.LabelFault.TheVariants as label_fault
 use Rattle.ej_outside.specs.Counts.{Same, Rises}
 use Rattle.ej_outside.specs.Shelf.{Files, ShelfState, GetsWith, PutsWith, MayReplace}
 use Rattle.ej_outside.specs.Sink.{SinkState}
 use Rattle.ej_outside.specs.declared.fault.Failed as failed
 use Rattle.std.specs.declared.vec.Vec.{Vec}
+use Rattle.erjang_compile.specs.declared.fault.SourceFault.{SourceFault}
+use Rattle.erjang_compile.specs.declared.fault.SourceFault.TheVariants as source_fault
+use Rattle.erjang_compile.specs.Faults.{HasFault as HasSourceFault}
 use Rattle.erjang_top.specs.declared.fault.Fault.{Fault}
 use Rattle.erjang_top.specs.declared.fault.Fault.TheVariants as fault
-use Rattle.erjang_top.specs.declared.fault.SourceFault.TheVariants as refusal
 use Rattle.erjang_top.specs.declared.fault.Stopped.{Stopped}
 use Rattle.erjang_top.specs.declared.fault.Stopped.TheVariants as stopped
 use Rattle.erjang_top.specs.declared.compile.ReadyClass.{ReadyClass}
 use Rattle.erjang_top.specs.declared.words.CompileWords.{CompileWords}
-use Rattle.erjang_top.specs.Answers.{Refusal, Absent, Longer, OfSource, SameModule, Blame, Held, IsBad, Reached, Counted, Refused, ReadFailed, Unchanged, Put, put_each, Compiled, PutFailed, Told, SameCounts, TookAll, TookFront, Says, cause_text, line, message, class_file, longest_file}
+use Rattle.erjang_top.specs.Answers.{Refusal, Absent, Longer, OfSource, NotBuilt, SameModule, Blame, Held, IsBad, Reached, Counted, Refused, ReadFailed, Unchanged, Put, put_each, Compiled, PutFailed, Told, SameCounts, TookAll, TookFront, Says, cause_text, line, message, class_file, longest_file}
 use Rattle.erjang_top.specs.first_path.ClassProfile.{ClassOf}
 use Rattle.erjang_top.specs.first_path.Emitted.{Emitted}
 use Rattle.erjang_top.specs.first_path.ModuleClass.{class_of}
-use Rattle.erjang_top.specs.Sources.{IsSource, HasCause}
+use Rattle.erjang_top.specs.first_path.Accepted.{Accepted}
+use Rattle.erjang_top.specs.Sources.{IsSource, IsNotBuilt}
 use Rattle.erjang_top.specs.Words.{Compile}
 
 -- the words that a command's own hold
 abbrev pub seen_words : CompileWords → Compile
 seen_words words = record { outdir = words.outdir.now; files = map string_bytes words.files.now }
 
--- a fault of a text, as one of the work
-abbrev pub fault_of_text : TextFault → Fault
-fault_of_text text_fault.NoMemory = fault.NoMemory
-fault_of_text text = fault.Refused (refusal.Text text)
-
--- a fault of forms
-abbrev pub fault_of_forms : FormFault → Fault
-fault_of_forms form_fault.NoMemory = fault.NoMemory
-fault_of_forms forms = fault.Refused (refusal.Form forms)
-
--- a break of a label rule
-abbrev pub fault_of_labels : LabelFault → Fault
-fault_of_labels label_fault.NoMemory = fault.NoMemory
-fault_of_labels labels = fault.Refused (refusal.Label labels)
+-- a fault of a source, as one of the work
+abbrev pub fault_of_source : SourceFault → Fault
+fault_of_source source_fault.NoMemory = fault.NoMemory
+fault_of_source source = fault.Refused source
 
 -- the first fault of a source that is not read
 abbrev pub GetsFault : List ℕ → ShelfState → Fault → ShelfState → Type 0
 GetsFault file old fault.Absent new = GetsWith old new (λ held. files.get held file ≡ None) Same Rises Same
 GetsFault file old fault.Longer new = GetsWith old new (λ held. IsSomeAnd (files.get held file) (λ bytes. longest_file < length bytes)) Same Same Rises
 GetsFault file old (fault.Refused _) new = ⊥
+GetsFault file old (fault.NotBuilt _ _) new = ⊥
 GetsFault file old fault.ReadFailed new = GetsWith old new (λ held. Unit {0}) Rises Same Same
 GetsFault file old (fault.SameModule _) new = ⊥
 GetsFault file old fault.NoMemory new = GetsWith old new (λ held. Unit {0}) Same Same Same
@@ -65,6 +53,7 @@ GetsSource file old (Err fault) new = GetsFault file old fault new
 pub record IsClassOf (outdir source : List ℕ) (class : ReadyClass) : Type 0 where
   pub module' : Module
   pub is_source : IsSource source module'
+  pub accepted : Accepted module'
   pub emitted : Emitted module' class.bytes.items
   pub spelled : ClassOf class.bytes.items (class_of module')
   pub of_module : class.module ≡ module'.name
@@ -72,16 +61,17 @@ pub record IsClassOf (outdir source : List ℕ) (class : ReadyClass) : Type 0 wh
 
 -- why a source of these bytes has no class: its cause, or that memory was wanting
 abbrev pub HasFault : List ℕ → Fault → Type 0
-HasFault source (fault.Refused cause) = HasCause source cause
+HasFault source (fault.Refused cause) = HasSourceFault true source cause
+HasFault source (fault.NotBuilt func index) = IsNotBuilt source func index
 HasFault source fault.Absent = ⊥
 HasFault source fault.Longer = ⊥
 HasFault source fault.ReadFailed = ⊥
 HasFault source (fault.SameModule _) = ⊥
 HasFault source fault.NoMemory = Unit {0}
 
--- the module whose source the bytes are, or why there is none
+-- the module whose source the bytes are, which the first path compiles, or why there is none
 abbrev pub ReadsSource : List ℕ → Result Module Fault → Type 0
-ReadsSource source (Ok m) = IsSource source m
+ReadsSource source (Ok m) = IsSource source m × Accepted m
 ReadsSource source (Err fault) = HasFault source fault
 
 -- what a source is built to: its class, or why it has none
@@ -99,6 +89,7 @@ abbrev pub FileFails : List ℕ → ShelfState → Fault → ShelfState → Type
 FileFails file old fault.Absent new = FileIsBad file Absent old new
 FileFails file old fault.Longer new = FileIsBad file Longer old new
 FileFails file old (fault.Refused cause) new = FileIsBad file (OfSource cause) old new
+FileFails file old (fault.NotBuilt func index) new = FileIsBad file (NotBuilt func index) old new
 FileFails file old fault.ReadFailed new = Unchanged old new Rises Same Same
 FileFails file old (fault.SameModule _) new = ⊥
 FileFails file old fault.NoMemory new = Unchanged old new Same Same Same
@@ -156,6 +147,7 @@ abbrev pub WorkStops : Compile → List ℕ → ShelfState → Fault → ShelfSt
 WorkStops w file old fault.Absent new = Refused w (record { file = file; cause = Absent }) old new
 WorkStops w file old fault.Longer new = Refused w (record { file = file; cause = Longer }) old new
 WorkStops w file old (fault.Refused cause) new = Refused w (record { file = file; cause = OfSource cause }) old new
+WorkStops w file old (fault.NotBuilt func index) new = Refused w (record { file = file; cause = NotBuilt func index }) old new
 WorkStops w file old (fault.SameModule earlier) new = Refused w (record { file = file; cause = SameModule earlier }) old new
 WorkStops w file old fault.ReadFailed new = ReadFailed w file old new
 WorkStops w file old fault.NoMemory new = Unchanged old new Same Same Same
@@ -187,6 +179,7 @@ ReportsAt file fault.Absent status old new = Says 1 (line file (cause_text Absen
 ReportsAt file fault.Longer status old new = Says 1 (line file (cause_text Longer)) status old new
 ReportsAt file fault.ReadFailed status old new = Says 3 (line file (codes ": read failed")) status old new
 ReportsAt file (fault.Refused cause) status old new = RefusesFor (record { file = file; cause = OfSource cause }) status old new
+ReportsAt file (fault.NotBuilt func index) status old new = RefusesFor (record { file = file; cause = NotBuilt func index }) status old new
 ReportsAt file (fault.SameModule earlier) status old new = RefusesFor (record { file = file; cause = SameModule earlier }) status old new
 ReportsAt file fault.NoMemory status old new = (status ≡ 5) × (new ≡ old)
 

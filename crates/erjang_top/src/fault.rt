@@ -1,41 +1,7 @@
 //! Why files have no classes.
 
-use asm_module::FormFault;
-use asm_terms::TextFault;
-use label_check::LabelFault;
+use erjang_compile::SourceFault;
 use std::alloc::AllocError;
-use std::fmt;
-use thiserror::Error;
-
-/// Why the bytes of a source are refused: the first cause. A want of memory in what reads them is none of these.
-#[derive(Debug, Drop, Error)]
-pub(crate) enum SourceFault {
-    /// A form of the text does not read.
-    Text(TextFault),
-    /// The forms are those of no module.
-    Form(FormFault),
-    /// The module breaks a label rule.
-    Label(LabelFault),
-    /// The module is none that is compiled.
-    NotBuilt,
-}
-
-/// What is said of the cause.
-impl fmt::Display for SourceFault {
-    ghost use Rattle.std.specs.Prelude.{Some};
-    ghost use Rattle.erjang_top.specs.Sources.{fault_text};
-
-    ghost output = { λ fault. Some (fault_text fault) };
-
-    fn fmt<W: fmt::Write>(&self, f: &mut fmt::Formatter<W>) -> fmt::Result {
-        match self {
-            SourceFault::Text(fault) => write!(f, "{fault}"),
-            SourceFault::Form(fault) => write!(f, "{fault}"),
-            SourceFault::Label(fault) => write!(f, "{fault}"),
-            SourceFault::NotBuilt => write!(f, "not built"),
-        }
-    }
-}
 
 /// Why a file has no class.
 #[derive(Drop)]
@@ -48,6 +14,8 @@ pub(crate) enum Fault {
     ReadFailed,
     /// The source is refused.
     Refused(SourceFault),
+    /// The source is accepted, and that instruction of that function, both from 0, is not compiled so far.
+    NotBuilt { func: usize, index: usize },
     /// Its module has the name of an earlier file's, which stands at that place from 1.
     SameModule { earlier: usize },
     /// Memory was wanting.
@@ -87,44 +55,16 @@ impl<'a> From<AllocError> for Stopped<'a> {
     }
 }
 
-impl From<TextFault> for Fault {
+impl From<SourceFault> for Fault {
     ghost use Rattle.std.specs.Prelude.{◌≡◌};
-    ghost use Rattle.erjang_top.specs.Work.{fault_of_text};
+    ghost use Rattle.erjang_top.specs.Work.{fault_of_source};
 
-    ghost from_gives = { λ text fault. fault ≡ fault_of_text text };
+    ghost from_gives = { λ source fault. fault ≡ fault_of_source source };
 
-    fn from(text: TextFault) -> Fault {
-        match text {
-            TextFault::NoMemory => Fault::NoMemory,
-            refused => Fault::Refused(SourceFault::Text(refused)),
-        }
-    }
-}
-
-impl From<FormFault> for Fault {
-    ghost use Rattle.std.specs.Prelude.{◌≡◌};
-    ghost use Rattle.erjang_top.specs.Work.{fault_of_forms};
-
-    ghost from_gives = { λ forms fault. fault ≡ fault_of_forms forms };
-
-    fn from(forms: FormFault) -> Fault {
-        match forms {
-            FormFault::NoMemory => Fault::NoMemory,
-            refused => Fault::Refused(SourceFault::Form(refused)),
-        }
-    }
-}
-
-impl From<LabelFault> for Fault {
-    ghost use Rattle.std.specs.Prelude.{◌≡◌};
-    ghost use Rattle.erjang_top.specs.Work.{fault_of_labels};
-
-    ghost from_gives = { λ labels fault. fault ≡ fault_of_labels labels };
-
-    fn from(labels: LabelFault) -> Fault {
-        match labels {
-            LabelFault::NoMemory => Fault::NoMemory,
-            refused => Fault::Refused(SourceFault::Label(refused)),
+    fn from(source: SourceFault) -> Fault {
+        match source {
+            SourceFault::NoMemory => Fault::NoMemory,
+            refused => Fault::Refused(refused),
         }
     }
 }

@@ -5,7 +5,7 @@
 //! both runs (`specs/first_path/`). It is frozen: nothing is added to it, and all of it goes when instructions are
 //! selected for every opcode.
 
-pub(crate) mod accept;
+pub(crate) mod built;
 pub(crate) mod code;
 pub(crate) mod emit;
 pub(crate) mod laws;

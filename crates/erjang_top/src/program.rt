@@ -37,7 +37,11 @@ use std::alloc::Global;
 /// | `function F, instruction I: label L missing` | the instruction may not name L |
 /// | `function F: bad entry` | the function does not begin as it has to |
 /// | `function F, instruction I: bad arity` | a call or a fun of another arity than what it names |
-/// | `not built` | the module is none that is compiled so far |
+/// | `function F: undefined slot` | no assignment of slots is good for the function |
+/// | `function F: weight W above 32767` | the function weighs too much |
+/// | `pool weight W above 65534` | the constants weigh too much |
+/// | `function F, instruction I: literal of W bytes above 65535` | the print of a literal is too long |
+/// | `function F, instruction I: not built` | the first instruction that is not compiled so far |
 /// | `same module as file K` | every file is a module's, and this is the first with the name of an earlier one's, file K |
 ///
 /// Files count from 1; forms, functions and the instructions of one count from 0; WORD is in UTF-8.

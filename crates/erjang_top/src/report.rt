@@ -1,12 +1,13 @@
 //! What is said of an outcome, and its status.
 
 ghost use Rattle.std.specs.Prelude.{◌≡◌, ◌∷◌, [], ◌++◌, codes, IfOk, string_bytes};
-ghost use Rattle.erjang_top.specs.Answers.{SameModule, Says, cause_text, usage_line};
-ghost use Rattle.erjang_top.specs.Sources.{fault_text};
+ghost use Rattle.erjang_compile.specs.Messages.{message};
+ghost use Rattle.erjang_top.specs.Answers.{NotBuilt, SameModule, Says, cause_text, usage_line};
 ghost use Rattle.erjang_top.specs.Work.{WritesAll, SaysRefusal, Reports, ReportsAt};
 
-use crate::fault::{Fault, SourceFault, Stopped};
+use crate::fault::{Fault, Stopped};
 use ej_outside::{Failed, Sink};
+use erjang_compile::SourceFault;
 use std::alloc::{AllocError, Global};
 
 /// The classes stand.
@@ -73,9 +74,16 @@ pub(crate) fn usage<E: Sink>(err: &mut E) -> u8
 
 /// What is said of a refused source behind its name, with the newline.
 fn refusal(alloc: Global, fault: &SourceFault) -> Result<String, AllocError>
-    ensures { IfOk result (λ said. string_bytes said ≡ codes ": " ++ fault_text fault.now ++ 10 ∷ []) }
+    ensures { IfOk result (λ said. string_bytes said ≡ codes ": " ++ message fault.now ++ 10 ∷ []) }
 {
     format!(in alloc; ": {fault}\n")
+}
+
+/// What is said of a file whose module has an instruction that is not compiled so far, with the newline.
+fn not_built(alloc: Global, func: usize, index: usize) -> Result<String, AllocError>
+    ensures { IfOk result (λ said. string_bytes said ≡ cause_text (NotBuilt func index) ++ 10 ∷ []) }
+{
+    format!(in alloc; ": function {func}, instruction {index}: not built\n")
 }
 
 /// What is said of a file whose module has the name of an earlier one's, with the newline.
@@ -104,6 +112,7 @@ fn report_at<E: Sink>(alloc: Global, err: &mut E, file: &str, fault: Fault) -> u
         Fault::Longer => say(err, REFUSED, file, ": longer than 67108864 bytes\n"),
         Fault::ReadFailed => say(err, READ_FAULT, file, ": read failed\n"),
         Fault::Refused(fault) => refuse(err, file, refusal(alloc, &fault)),
+        Fault::NotBuilt { func, index } => refuse(err, file, not_built(alloc, func, index)),
         Fault::SameModule { earlier } => refuse(err, file, same_module(alloc, earlier)),
         Fault::NoMemory => NO_MEMORY,
     }

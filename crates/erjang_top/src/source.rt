@@ -1,16 +1,11 @@
 //! Reads a source: the module that is compiled, from its text.
-//!
-//! The text is read as forms, the forms as a module, and its labels are checked. A module is answered where it is one
-//! that is compiled.
 
 ghost use Rattle.erjang_top.specs.Work.{ReadsSource};
 
-use crate::fault::{Fault, SourceFault};
-use crate::first_path::accept::accepts;
-use asm_module::module_of;
-use asm_terms::read_forms;
+use crate::fault::Fault;
+use crate::first_path::built::first_unbuilt;
 use beam_code::Module;
-use label_check::check;
+use erjang_compile::{Source, accept};
 use std::alloc::Global;
 
 /// The module whose source the bytes are.
@@ -20,11 +15,12 @@ use std::alloc::Global;
 pub(crate) fn read_source(alloc: Global, bytes: &[u8]) -> Result<Module, Fault>
     ensures { ReadsSource bytes.now result }
 {
-    let forms = read_forms(alloc, bytes)?;
-    let module = module_of(alloc, forms.as_slice())?;
-    check(alloc, &module)?;
-    if !accepts(alloc, &module)? {
-        return Err(Fault::Refused(SourceFault::NotBuilt));
+    let Source { module, maps: _ } = accept(alloc, bytes, true)?;
+    match first_unbuilt(&module) {
+        Some(place) => Err(Fault::NotBuilt {
+            func: place.func,
+            index: place.index,
+        }),
+        None => Ok(module),
     }
-    Ok(module)
 }
