@@ -1,5 +1,5 @@
 -- What each kind of source term is fed as, as equations.
-use Rattle.std.proofs.Common.{◌≡◌, ℕ, ◌+◌, ℤ, List, [], ◌∷◌, ◌++◌, map, length, Option, None, Some, refl, sym, ap, ap₂, ◌∙◌}
+use Rattle.std.proofs.Common.{◌≡◌, ℕ, ℤ, List, [], ◌∷◌, ◌++◌, map, Option, None, Some, refl, sym, ap, ap₂, ◌∙◌}
 use Rattle.std.proofs.lemmas.List.{length-map}
 use Rattle.std.specs.Hash as fed
 use Rattle.std.specs.Hash.{HashWrites}
@@ -7,7 +7,7 @@ use Rattle.std.specs.List.{flat_map}
 use Rattle.ej_term.specs.declared.asm_term.AsmTerm.{AsmTerm, fold-roll-AsmTerm}
 use Rattle.ej_term.specs.declared.asm_term.AsmTerm.TheOpen as o
 use Rattle.ej_term.specs.declared.asm_term.AsmTerm.TheVariants as v
-use Rattle.ej_term.specs.Hashed.{text, optional, fed_step, fed_term, fed_tail, fed_pair}
+use Rattle.ej_term.specs.Hashed.{text, fed_step, fed_term, fed_tail, fed_pair}
 
 -- a list of what was mapped, fed one by one
 listed : {A B : Type 0} (f : A → B) (feed : B → HashWrites) (both : A → HashWrites) → ((x : A) → feed (f x) ≡ both x) → (xs : List A) → flat_map feed (map f xs) ≡ flat_map both xs

@@ -1,6 +1,5 @@
 -- What of a source's term is fed to a hasher: a number for its kind, and what is in it.
-use Rattle.std.specs.Prelude.{◌≡◌, ℕ, true, List, [], ◌++◌, map, length, encode_utf8_all, Option, None, Some}
-use Rattle.std.specs.List.{flat_map}
+use Rattle.std.specs.Prelude.{◌≡◌, ℕ, true, List, ◌++◌, encode_utf8_all, Option, None, Some}
 use Rattle.std.specs.Hash as fed
 use Rattle.std.specs.Hash.{HashWrites}
 use Rattle.std.proofs.Common.{ap}

@@ -1,6 +1,6 @@
 -- When two terms of a source are the same: token by token, so that a string is not the list of its characters, and a map
 -- with its pairs in another order is another map.
-use Rattle.std.specs.Prelude.{Bool, true, false, nat_eq, ◌&&◌, List, Option, None, Some}
+use Rattle.std.specs.Prelude.{Bool, true, false, nat_eq, ◌&&◌, Option, None, Some}
 use Rattle.std.specs.Cmp.Lexicographic.{pointwise}
 use Rattle.std.specs.Ordering.{int_eq}
 use Rattle.std.specs.Str.{bytes_eq}

@@ -1,5 +1,5 @@
 -- Terms that are found the same are one.
-use Rattle.std.specs.Prelude.{◌≡◌, ◌↔◌, IsTrue, ℕ, nat_eq, Bool, true, false, ◌&&◌, List, [], ◌∷◌, map, Option, None, Some}
+use Rattle.std.specs.Prelude.{◌≡◌, ◌↔◌, IsTrue, ℕ, nat_eq, Bool, true, false, ◌&&◌, List, [], ◌∷◌, map, None, Some}
 use Rattle.std.specs.Bool.{Decides}
 use Rattle.std.specs.Cmp.{IsEquivalence, both_ways}
 use Rattle.std.specs.Cmp.Lexicographic.{pointwise}
@@ -13,7 +13,7 @@ use Rattle.ej_term.specs.declared.asm_term.AsmTerm.TheFolds.{ind-AsmTerm, map-As
 use Rattle.ej_term.specs.declared.asm_term.AsmTerm.TheOpen as o
 use Rattle.ej_term.specs.declared.asm_term.AsmTerm.TheOpen.{AsmTerm-F}
 use Rattle.ej_term.specs.declared.asm_term.AsmTerm.TheViews.{roll-AsmTerm}
-use Rattle.ej_term.specs.Same.{IsIt, same_tail, same_pair, same_step, same_within, same}
+use Rattle.ej_term.specs.Same.{IsIt, same_pair, same_step, same_within, same}
 
 both : (a b : Bool) → (a && b) ≡ true → (a ≡ true) × (b ≡ true)
 both true b h = (refl, h)
