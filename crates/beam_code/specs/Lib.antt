@@ -20,6 +20,8 @@ pub mod FlowParts
 pub mod FlowSeen
 pub mod After
 pub mod ConstantsSeen
+pub mod SameSource
+pub mod SameSourceLaws
 pub mod WorkedSlots
 pub mod WorkedWeights
 pub mod Worked

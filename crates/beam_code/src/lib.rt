@@ -8,6 +8,7 @@
 
 mod constants;
 mod decode;
+mod equality;
 mod fault;
 mod fits;
 mod flow;

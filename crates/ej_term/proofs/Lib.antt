@@ -10,3 +10,4 @@ pub mod WorkedPrints
 pub mod MapLaws
 pub mod OpaqueLaw
 pub mod OpaqueLemmas
+pub mod HashedLemmas

@@ -16,3 +16,6 @@ pub mod Builtins
 pub mod AsmValue
 pub mod Print
 pub mod Worked
+pub mod Same
+pub mod SameLaws
+pub mod Hashed

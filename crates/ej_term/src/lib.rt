@@ -6,7 +6,8 @@
 //! writes a term as an `AsmTerm`: `AsmValue` has the term that it stands for, and `Print` its own print.
 //!
 //! A `Text` and an `AsmTerm` hold no capacity and no address that a contract could see, so contracts
-//! compare them by `≡`. Both can be copied and compared.
+//! compare them by `≡`. Both can be copied, compared by `==`, and put in sets: `Same` says when two source terms are equal,
+//! and that is where they are `≡`.
 //!
 //! The functions that do nothing have a law of these definitions, or worked rows of them, as their contract.
 #![tactic(auto)]
@@ -14,6 +15,7 @@
 mod asm_term;
 mod builtin;
 mod class;
+mod equality;
 mod laws;
 mod test;
 mod text;

@@ -10,6 +10,8 @@ mod instructions;
 #[cfg(test)]
 mod many_files;
 #[cfg(test)]
+mod pool;
+#[cfg(test)]
 mod runs;
 #[cfg(test)]
 mod slots;

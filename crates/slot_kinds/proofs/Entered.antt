@@ -42,3 +42,8 @@ adds-more seen has new label labels a q =
     ap (λ c. c || is_in (filter seen labels) q) (a q) ∙ or-assoc (has q) (is_in (filter seen (label ∷ [])) q) (is_in (filter seen labels) q)
     ∙ ap (λ c. has q || c) (sym (list_any-append (nat_eq q) (filter seen (label ∷ [])) (filter seen labels)))
     ∙ ap (λ all. has q || is_in all q) (sym (filter-append seen (label ∷ []) labels))
+
+-- the numbers that are left, where some were added
+pub adds-some : (has new : ℕ → Bool) (some more : List ℕ) → Adds has new some → (q : ℕ) → (new q || is_in more q) ≡ (has q || is_in (some ++ more) q)
+adds-some has new some more a q =
+    ap (λ c. c || is_in more q) (a q) ∙ or-assoc (has q) (is_in some q) (is_in more q) ∙ ap (λ c. has q || c) (sym (list_any-append (nat_eq q) some more))

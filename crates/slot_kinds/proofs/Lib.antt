@@ -14,3 +14,5 @@ pub mod TableLaw
 pub mod WalkLaw
 pub mod RulesLaw
 pub mod SettleLaw
+pub mod Different
+pub mod ValuesLaw

@@ -9,3 +9,4 @@ pub mod Tables
 pub mod Rows
 pub mod Walks
 pub mod Settles
+pub mod Named

@@ -1,7 +1,8 @@
 //! What slots hold in a function of BEAM code, and what functions and constants weigh.
 //!
 //! `kinds` answers the most defined good assignment of slot states to the labels of a function, and refuses a function
-//! exactly where no assignment is good. `weight` is the sum of its definition.
+//! exactly where no assignment is good. `weight` is the sum of its definition, and `pool_weight` that of a module's constants:
+//! the values, the sizes and places, and the external functions that its code names, each once.
 #![tactic(auto)]
 
 mod back;
@@ -10,12 +11,16 @@ mod fault;
 mod function;
 mod join;
 mod look_up;
+mod named;
+mod pool;
 mod settle;
 mod table;
 mod tags;
+mod values;
 mod walk;
 mod weigh;
 
 pub use fault::SlotFault;
 pub use function::weight;
+pub use pool::pool_weight;
 pub use settle::kinds;
