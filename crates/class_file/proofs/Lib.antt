@@ -8,4 +8,5 @@ pub mod NameSets
 pub mod OpsRead
 pub mod PaddingRead
 pub mod Pushed
+pub mod ReadAgain
 pub mod TimesRead

@@ -1,3 +1,4 @@
+pub mod Again
 pub mod Contents
 pub mod Gave
 pub mod Moved

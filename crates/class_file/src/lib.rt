@@ -4,6 +4,7 @@
 //! Reading is one pass over the bytes. What is read is what `jvm_code`'s definition reads, offsets of faults included.
 #![tactic(auto)]
 
+mod again;
 mod fault;
 mod instructions;
 mod methods;

@@ -273,7 +273,7 @@ fn descriptor(pool: &[Constant], taken: bool, source: &mut Source<'_>) -> Result
 }
 
 /// The names of methods.
-type Names<'a> = IndexSet<&'a [u8]>;
+pub(crate) type Names<'a> = IndexSet<&'a [u8]>;
 
 /// The name of a method.
 fn name_of(pool: &[Constant], index: u16) -> &[u8]
@@ -326,7 +326,7 @@ fn method_of(
 }
 
 /// A method behind those of these names, to which its own is put.
-fn method<'a>(
+pub(crate) fn method<'a>(
     alloc: Global,
     pool: &'a [Constant],
     names: &mut Names<'a>,

@@ -18,7 +18,7 @@ use jvm_code::{Class, Constant, Method, is_class_name};
 use sqlite_items::Items;
 use std::alloc::{AllocError, Global};
 
-fn magic(source: &mut Source<'_>) -> Result<u32, ClassFault>
+pub(crate) fn magic(source: &mut Source<'_>) -> Result<u32, ClassFault>
     ensures { Gave (λ n. n) (spec.magic source.old.at source.old.rest) result source.new }
 {
     let at = source.at();
@@ -37,14 +37,14 @@ fn major(source: &mut Source<'_>) -> Result<u16, ClassFault>
 }
 
 /// The minor and the major version.
-fn version(source: &mut Source<'_>) -> Result<u16, ClassFault>
+pub(crate) fn version(source: &mut Source<'_>) -> Result<u16, ClassFault>
     ensures { Gave (λ n. n) (spec.version source.old.at source.old.rest) result source.new }
 {
     none(source)?;
     major(source)
 }
 
-fn flags(source: &mut Source<'_>) -> Result<u16, ClassFault>
+pub(crate) fn flags(source: &mut Source<'_>) -> Result<u16, ClassFault>
     ensures { Gave (λ n. n) (spec.class_flags source.old.at source.old.rest) result source.new }
 {
     let at = source.at();
@@ -73,7 +73,7 @@ fn this_verdict(alloc: Global, pool: &[Constant], index: u16) -> Result<Verdict,
 }
 
 /// The index of the class's own entry.
-fn this(alloc: Global, pool: &[Constant], source: &mut Source<'_>) -> Result<u16, ClassFault>
+pub(crate) fn this(alloc: Global, pool: &[Constant], source: &mut Source<'_>) -> Result<u16, ClassFault>
     ensures { Gave (λ n. n) (spec.this pool.now source.old.at source.old.rest) result source.new }
 {
     let at = source.at();
@@ -92,7 +92,7 @@ fn above_verdict(pool: &[Constant], index: u16) -> Verdict
 }
 
 /// The index of the superclass's entry.
-fn above(pool: &[Constant], source: &mut Source<'_>) -> Result<u16, ClassFault>
+pub(crate) fn above(pool: &[Constant], source: &mut Source<'_>) -> Result<u16, ClassFault>
     ensures { Gave (λ n. n) (spec.above pool.now source.old.at source.old.rest) result source.new }
 {
     let at = source.at();

@@ -1,12 +1,9 @@
 //! Writes a class (JVMS SE 7, 4.1).
 
-ghost use Rattle.std.specs.Prelude.{ℕ, List, IfOk};
-ghost use Rattle.std.specs.Bool.{Decides};
+ghost use Rattle.std.specs.Prelude.{ℕ, List};
 ghost use Rattle.class_file.specs.Written.{Writes, WritesAgain};
-ghost use Rattle.jvm_code.specs.ReadClass.{ClassOf};
 
-use crate::fault::ClassFault;
-use crate::reading::parse;
+use crate::again::reads_as;
 use crate::spelling::spell;
 use jvm_code::Class;
 use std::alloc::{AllocError, Global};
@@ -31,17 +28,6 @@ impl From<AllocError> for WriteFault {
 
     fn from(_: AllocError) -> WriteFault {
         WriteFault::NoMemory
-    }
-}
-
-/// Whether the bytes are those of the class.
-fn reads_as(alloc: Global, bytes: &[u8], class: &Class) -> Result<bool, AllocError>
-    ensures { IfOk result (λ same. Decides same (ClassOf bytes.now class.now)) }
-{
-    match parse(alloc, bytes) {
-        Ok(read) => Ok(read == *class),
-        Err(ClassFault::NoMemory) => Err(AllocError),
-        Err(_) => Ok(false),
     }
 }
 
