@@ -6,6 +6,7 @@
 //! selected for every opcode.
 
 pub(crate) mod accept;
+pub(crate) mod built;
 pub(crate) mod code;
 pub(crate) mod emit;
 pub(crate) mod laws;

@@ -1,0 +1,9 @@
+use Rattle.erjang_top.proofs.FirstPath.BuiltLaw.{none_unbuilt, one_unbuilt}
+use Rattle.erjang_top.proofs.first_path.laws.one_instruction_is_the_first_unbuilt.Goals as goal
+
+-- src/first_path/laws.rt
+pub returns-clause-none : goal.returns-clause-none
+returns-clause-none c = none_unbuilt
+
+pub returns-clause-one : goal.returns-clause-one
+returns-clause-one c = one_unbuilt
