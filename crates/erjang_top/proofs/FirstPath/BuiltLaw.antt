@@ -2,13 +2,14 @@
 use Rattle.std.proofs.Common.{◌≡◌, ℕ, zero, suc, Bool, true, false, ◌&&◌, List, [], ◌∷◌, take, Option, None, Some, refl, sym, ap, ◌∙◌, subst}
 use Rattle.std.specs.Prelude.{slice_get}
 use Rattle.std.specs.List.{list_all}
-use Rattle.std.proofs.lemmas.Bool.{and_parts, true≢false}
+use Rattle.std.proofs.lemmas.Bool.{and_parts, and_from, true≢false}
 use Rattle.beam_code.specs.declared.module.Function.{Function}
 use Rattle.beam_code.specs.declared.module.Module.{Module}
 use Rattle.erjang_top.specs.first_path.LabelRules.{opcodes}
 use Rattle.erjang_top.specs.first_path.Opcode.{Opcode, Unknown, is_known}
 use Rattle.erjang_top.specs.first_path.Ranges.{knows}
-use Rattle.erjang_top.specs.first_path.Built.{FirstUnknown, FirstUnbuilt, NoneUnbuilt, OneUnbuilt}
+use Rattle.erjang_top.specs.first_path.Built.{FirstUnknown, FirstUnbuilt, NoneUnbuilt, SomeUnbuilt, OneUnbuilt}
+use Rattle.erjang_top.proofs.FirstPath.BuiltSteps.{not-known}
 
 module _ {A : Type 0} (p : A → Bool) where
   -- what all pass, the one at a place passes
@@ -44,6 +45,24 @@ module _ {A : Type 0} (p : A → Bool) where
       later : (n : ℕ) → FirstAt (x ∷ xs) (suc n) → FirstAt xs n
       later n h = record { before = (and_parts (p x) (list_all p (take n xs)) h.before).1; here = h.here; is_there = h.is_there; fails = h.fails }
 
+  -- one is the first that fails, where not all pass
+  record SomeFirst (xs : List A) : Type 0 where
+    at : ℕ
+    first : FirstAt xs at
+
+  some-first : (xs : List A) → list_all p xs ≡ false → SomeFirst xs
+  some-first [] e = absurd (true≢false e)
+  some-first (x ∷ xs) e = by (p x) refl (some-first xs) e
+    where
+      by : (b : Bool) → p x ≡ b → (list_all p xs ≡ false → SomeFirst xs) → (b && list_all p xs) ≡ false → SomeFirst (x ∷ xs)
+      by true h later f =
+          let rest = later f in
+          record {
+            at = suc rest.at;
+            first = record { before = and_from (p x) (list_all p (take rest.at xs)) h rest.first.before; here = rest.first.here; is_there = rest.first.is_there; fails = rest.first.fails };
+          }
+      by false h later f = record { at = 0; first = record { before = refl; here = x; is_there = refl; fails = h } }
+
 fails-if : (b : Bool) → (b ≡ true → ⊥) → b ≡ false
 fails-if true h = absurd (h refl)
 fails-if false h = refl
@@ -61,6 +80,20 @@ none_unbuilt m func index all u =
 
 instruction-first : (code : List Opcode) (index : ℕ) → FirstUnknown code index → FirstAt is_known code index
 instruction-first code index u = record { before = u.before; here = Unknown; is_there = u.is_unknown; fails = refl }
+
+pub some_unbuilt : SomeUnbuilt
+some_unbuilt m not_all =
+    let f : SomeFirst knows m.functions = some-first knows m.functions (fails-if (list_all knows m.functions) not_all) in
+    let i : SomeFirst is_known (opcodes f.first.here) = some-first is_known (opcodes f.first.here) f.first.fails in (
+      f.at,
+      i.at,
+      record {
+        before = f.first.before;
+        function = f.first.here;
+        is_there = f.first.is_there;
+        first = record { before = i.first.before; is_unknown = i.first.is_there ∙ ap Some (not-known i.first.here i.first.fails) };
+      },
+    )
 
 pub one_unbuilt : OneUnbuilt
 one_unbuilt m func index other_func other_index u v = (

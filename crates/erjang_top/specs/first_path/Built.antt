@@ -28,7 +28,11 @@ pub record FirstUnbuilt (m : Module) (func index : ℕ) : Type 0 where
 abbrev pub NoneUnbuilt : Type 0
 NoneUnbuilt = (m : Module) (func index : ℕ) → AllBuilt m → FirstUnbuilt m func index → ⊥
 
--- there is one first instruction
+-- where not each is, one is the first that is not
+abbrev pub SomeUnbuilt : Type 0
+SomeUnbuilt = (m : Module) → (AllBuilt m → ⊥) → (func : ℕ) × (index : ℕ) × FirstUnbuilt m func index
+
+-- and only one
 abbrev pub OneUnbuilt : Type 0
 OneUnbuilt = (m : Module) (func index other_func other_index : ℕ) → FirstUnbuilt m func index → FirstUnbuilt m other_func other_index
     → (func ≡ other_func) × (index ≡ other_index)

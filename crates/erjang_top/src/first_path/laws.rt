@@ -1,7 +1,7 @@
 //! Laws of the definitions: functions that do nothing, with the laws as their contracts.
 
 ghost use Rattle.erjang_top.specs.first_path.Bridge.{Bridges};
-ghost use Rattle.erjang_top.specs.first_path.Built.{NoneUnbuilt, OneUnbuilt};
+ghost use Rattle.erjang_top.specs.first_path.Built.{NoneUnbuilt, SomeUnbuilt, OneUnbuilt};
 ghost use Rattle.erjang_top.specs.first_path.Ranges.{Ranges, Compiles};
 
 /// Of a module that is read from a text all names and numbers are in range, so that it is compiled exactly where each
@@ -17,8 +17,9 @@ pub fn accepted_modules_are_compiled()
     ensures bridges { Bridges }
 {}
 
-/// A module whose instructions are all read so far has no first one that is not, and no module has two such.
+/// A module has one first instruction that is not read so far, or each of its instructions is, and not both.
 pub fn one_instruction_is_the_first_unbuilt()
     ensures none { NoneUnbuilt }
+    ensures some { SomeUnbuilt }
     ensures one { OneUnbuilt }
 {}
