@@ -1,5 +1,5 @@
 -- A module that the whole definitions accept is compiled, if it has the first path's instructions alone.
-use Rattle.std.proofs.Common.{◌≡◌, ℕ, ◌≤◌, true, nat_le, List, [], ◌∷◌, map, refl, ◌∙◌}
+use Rattle.std.proofs.Common.{◌≡◌, true, nat_le, List, [], ◌∷◌, map, refl, ◌∙◌}
 use Rattle.std.specs.List.{list_all, AllByRecursion}
 use Rattle.std.proofs.lemmas.Bool.{and_parts, and_from, le-leb}
 use Rattle.beam_code.specs.declared.module.Function.{Function}

@@ -1,5 +1,5 @@
 -- What a module's constants weigh by the first path's definition is no more than the whole weight of its pool.
-use Rattle.std.proofs.Common.{◌≡◌, ℕ, suc, ◌+◌, ◌*◌, ◌≤◌, Bool, true, false, ◌||◌, List, [], ◌∷◌, ◌++◌, length, map, Option, None, Some, ◌⊎◌, inl, inr, refl, sym, ap, ◌∙◌, subst, arith}
+use Rattle.std.proofs.Common.{◌≡◌, ℕ, suc, ◌+◌, ◌*◌, ◌≤◌, Bool, true, false, ◌||◌, List, [], ◌∷◌, ◌++◌, length, map, ◌⊎◌, inl, inr, refl, sym, ap, ◌∙◌, subst, arith}
 use Rattle.std.specs.Prelude.{if◌then◌else◌, fold}
 use Rattle.std.specs.List.{list_any, filter_map, flat_map, cons_option}
 use Rattle.std.proofs.lemmas.Bool.{true≢false}
@@ -16,10 +16,10 @@ use Rattle.beam_code.specs.declared.operand.Src.TheVariants as source
 use Rattle.beam_code.specs.Code as code
 use Rattle.beam_code.specs.Code.{FunctionCode, function_code, module_code}
 use Rattle.beam_code.specs.Opcode as c
-use Rattle.beam_code.specs.Pool.{values_in, code_of, IsAmong, AllDiffer, HasDifferent, PoolWeight}
+use Rattle.beam_code.specs.Pool.{values_in, IsAmong, AllDiffer, HasDifferent, PoolWeight}
 use Rattle.beam_code.specs.Weights.{saturated}
 use Rattle.erjang_top.specs.first_path.LabelRules.{opcodes}
-use Rattle.erjang_top.specs.first_path.Opcode.{Value, Integer, Atom, Nil, opcode, thin, move_of}
+use Rattle.erjang_top.specs.first_path.Opcode.{Value, Integer, Atom, Nil, thin, move_of}
 use Rattle.erjang_top.specs.first_path.Weights.{value_in, values_of, same_value, with_value, distinct, pool_weight}
 use Rattle.erjang_top.specs.first_path.Bridge.{PoolFits, most_of_pool}
 use Rattle.erjang_top.proofs.FirstPath.RulesKept.{mapped}

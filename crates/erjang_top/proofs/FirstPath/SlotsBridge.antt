@@ -1,12 +1,11 @@
 -- A function of the first path's instructions that is well slotted by the whole definition is so by the first path's.
-use Rattle.std.proofs.Common.{◌≡◌, ℕ, zero, suc, ◌+◌, Bool, true, false, nat_eq, nat_lt, nat_le, ◌&&◌, ◌||◌, List, [], ◌∷◌, map, Option, None, Some, is_none, unwrap_or, refl, sym, ap, ◌∙◌, subst}
+use Rattle.std.proofs.Common.{◌≡◌, ℕ, zero, suc, ◌+◌, Bool, true, false, nat_eq, nat_lt, nat_le, ◌&&◌, List, [], ◌∷◌, map, Option, None, Some, is_none, unwrap_or, refl, sym, ap, ◌∙◌, subst}
 use Rattle.std.specs.Prelude.{if◌then◌else◌, MatchOption, option_map}
 use Rattle.std.specs.List.{list_all}
-use Rattle.std.proofs.lemmas.Bool.{and_parts, true≢false}
+use Rattle.std.proofs.lemmas.Bool.{true≢false}
 use Rattle.beam_code.specs.declared.kind.Kind.{Kind as WholeKind}
 use Rattle.beam_code.specs.declared.kind.Kind.TheVariants as k
 use Rattle.beam_code.specs.declared.module.Function.{Function}
-use Rattle.beam_code.specs.declared.operand.Reg.{Reg}
 use Rattle.beam_code.specs.declared.operand.Reg.TheVariants as register
 use Rattle.beam_code.specs.declared.operand.Src.{Src}
 use Rattle.beam_code.specs.declared.operand.Src.TheVariants as source
@@ -18,10 +17,9 @@ use Rattle.beam_code.specs.Flow.{flow}
 use Rattle.beam_code.specs.Good as good
 use Rattle.beam_code.specs.Opcode as c
 use Rattle.beam_code.specs.Slots as whole
-use Rattle.erjang_top.specs.first_path.LabelRules.{opcodes}
-use Rattle.erjang_top.specs.first_path.Opcode.{Source, X, Of, Integer, Atom, Nil, Opcode, Move, thin, is_known}
+use Rattle.erjang_top.specs.first_path.Opcode.{Opcode, thin, is_known}
 use Rattle.erjang_top.specs.first_path.Ranges.{knows}
-use Rattle.erjang_top.specs.first_path.Slots.{Kind, Undefined, Term, OptTerm, Tag, Trace, Marker, State, BelowKind, Below, Assignment, GoesTo, tag_labels, lowest_tag, handlers, caught, GoToEach, kind_of, IsMoved, with_x, Holds, after, Walk, entry_state, WellSlotted}
+use Rattle.erjang_top.specs.first_path.Slots.{Kind, Undefined, Term, OptTerm, Tag, Trace, Marker, State, BelowKind, Below, Assignment, GoesTo, tag_labels, lowest_tag, handlers, caught, GoToEach, IsMoved, with_x, Walk, entry_state, WellSlotted}
 use Rattle.erjang_top.specs.first_path.Bridge as bridge
 use Rattle.erjang_top.proofs.FirstPath.RulesKept.{mapped}
 

@@ -1,5 +1,5 @@
 -- What a function weighs by the first path's definition is no more than its whole weight.
-use Rattle.std.proofs.Common.{◌≡◌, ℕ, ◌+◌, ◌*◌, ◌≤◌, Bool, List, [], ◌∷◌, map, Option, None, refl, sym, ap, ◌∙◌, subst, arith}
+use Rattle.std.proofs.Common.{ℕ, ◌+◌, ◌*◌, ◌≤◌, Bool, List, [], ◌∷◌, map, Option, None, subst, arith}
 use Rattle.std.specs.Prelude.{fold, sum}
 use Rattle.beam_code.specs.declared.module.Function.{Function}
 use Rattle.beam_code.specs.declared.operand.Reg.{Reg}
@@ -13,7 +13,6 @@ use Rattle.beam_code.specs.Labels.{with_label, defined_by, defined_in}
 use Rattle.beam_code.specs.Opcode as c
 use Rattle.beam_code.specs.Slots.{State}
 use Rattle.beam_code.specs.Weights.{Place, own_weight, if_reached, defined_ys, charge, weight_at, places_from, places_of, is_wide, entry_labels, entry_weight, whole_weight, saturated}
-use Rattle.erjang_top.specs.first_path.LabelRules.{opcodes}
 use Rattle.erjang_top.specs.first_path.Opcode.{thin, move_of}
 use Rattle.erjang_top.specs.first_path.Weights.{instruction_weight, weight}
 use Rattle.erjang_top.specs.first_path.Bridge.{FunctionFits, most_of_function}

@@ -1,5 +1,4 @@
-use Rattle.std.proofs.Common.{◌≡◌, true, map, take, sym, ap, ◌∙◌, Some}
-use Rattle.std.specs.List.{list_all}
+use Rattle.std.proofs.Common.{map, sym, ap, ◌∙◌, Some}
 use Rattle.erjang_top.specs.first_path.Opcode.{opcode, is_known}
 use Rattle.erjang_top.proofs.FirstPath.BuiltSteps.{stands-at, more-pass, not-known}
 use Rattle.erjang_top.proofs.first_path.built.first_unknown.Goals as goal

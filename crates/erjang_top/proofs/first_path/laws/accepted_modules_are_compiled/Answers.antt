@@ -3,4 +3,4 @@ use Rattle.erjang_top.proofs.first_path.laws.accepted_modules_are_compiled.Goals
 
 -- src/first_path/laws.rt
 pub returns : goal.returns
-returns c = bridges
+returns c = record { bridges = bridges }
