@@ -54,3 +54,9 @@ pub mod SelectSteps
 pub mod PoolSteps
 pub mod ClassSteps
 pub mod RangesLaw
+pub mod SlotsBridge
+pub mod WeightBridge
+pub mod PoolBridge
+pub mod Bridge
+pub mod BuiltLaw
+pub mod BuiltSteps

@@ -2,6 +2,8 @@
 pub mod World
 pub mod Run
 pub mod Agree
+pub mod Bridge
+pub mod Built
 pub mod Lines
 pub mod Opcode
 pub mod LabelRules

@@ -10,6 +10,8 @@ mod report;
 mod source;
 mod words;
 
-pub use first_path::laws::read_modules_are_in_range;
+pub use first_path::laws::{
+    accepted_modules_are_compiled, one_instruction_is_the_first_unbuilt, read_modules_are_in_range,
+};
 pub use first_path::scripts::worked_runs;
 pub use program::erjang;

@@ -46,7 +46,7 @@ beginning owner f (o ∷ []) e = by o e
     by _ e = absurd (true≢false (sym e))
 beginning owner f (o ∷ x ∷ os) e = absurd (true≢false (sym e))
 
-mapped : (is : List Instr) → map thin (map code.opcode is) ≡ map opcode is
+pub mapped : (is : List Instr) → map thin (map code.opcode is) ≡ map opcode is
 mapped [] = refl
 mapped (i ∷ is) = ap (λ os. opcode i ∷ os) (mapped is)
 
