@@ -37,14 +37,8 @@ pub mod ClassParts
 pub mod ClassTurns
 pub mod SameRuns
 pub mod Dropped
-pub mod NoTwice
 pub mod SlotsPass
-pub mod SlotsGood
-pub mod PlainBytes
-pub mod AcceptedLaw
 pub mod SeenSets
-pub mod SlotSteps
-pub mod Marks
 pub mod ValueLemmas
 pub mod Seen
 pub mod ValueKeys

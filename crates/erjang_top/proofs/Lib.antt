@@ -3,7 +3,6 @@ mod Worked
 mod ManyFiles
 mod Answered
 pub mod Reading
-pub mod OneSource
 pub mod OneFirst
 pub mod GoodTerms
 pub mod FirstPath

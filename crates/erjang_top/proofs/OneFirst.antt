@@ -6,7 +6,7 @@ use Rattle.beam_code.specs.declared.module.Module.{Module}
 use Rattle.ej_outside.specs.Shelf.{Files}
 use Rattle.erjang_compile.specs.declared.fault.SourceFault.{SourceFault}
 use Rattle.erjang_compile.specs.Faults.{HasFault}
-use Rattle.erjang_compile.proofs.OneAnswer.{one_answer}
+use Rattle.erjang_compile.proofs.OneAnswer.{law as one_answer}
 use Rattle.erjang_top.specs.Answers.{Refusal, Absent, Longer, OfSource, NotBuilt, SameModule, Blame, IsOf, IsGood, IsBad, StopsAt, AllRead, First, first_twice, longest_file}
 use Rattle.erjang_top.specs.Sources.{IsSource, IsNotBuilt}
 use Rattle.erjang_top.specs.Words.{Compile}

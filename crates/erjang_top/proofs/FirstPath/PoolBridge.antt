@@ -21,7 +21,7 @@ use Rattle.beam_code.specs.Weights.{saturated}
 use Rattle.erjang_top.specs.first_path.LabelRules.{opcodes}
 use Rattle.erjang_top.specs.first_path.Opcode.{Value, Integer, Atom, Nil, thin, move_of}
 use Rattle.erjang_top.specs.first_path.Weights.{value_in, values_of, same_value, with_value, distinct, pool_weight}
-use Rattle.erjang_top.specs.first_path.Bridge.{PoolFits, most_of_pool}
+use Rattle.erjang_compile.specs.Accepted.{PoolFits, most_of_pool}
 use Rattle.erjang_top.proofs.FirstPath.RulesKept.{mapped}
 
 -- ---- a list of different elements, all among others, is no longer than those

@@ -14,11 +14,10 @@ use Rattle.beam_code.specs.Opcode as w
 use Rattle.erjang_top.specs.first_path.LabelRules.{opcodes}
 use Rattle.erjang_top.specs.first_path.Opcode.{opcode, thin, X, Of, Integer, Atom, Nil, is_known}
 use Rattle.beam_code.specs.Parts.{parts_of, function_parts, module_parts, ModuleParts}
-use Rattle.erjang_top.proofs.FirstPath.AcceptedRules.{module_known}
 use Rattle.erjang_top.proofs.FirstPath.GoodOpcodes.{GoodOpcode, decoded-good}
 use Rattle.asm_module.specs.Terms.{is_word}
 use Rattle.asm_module.specs.declared.fault.FormFault.{FormFault}
-use Rattle.erjang_top.specs.first_path.Ranges.{knows, Ranges, Compiles}
+use Rattle.erjang_top.specs.first_path.Ranges.{knows, Ranges}
 use Rattle.erjang_top.proofs.GoodTerms.{forms-good}
 use Rattle.asm_module.specs.Ranges.{Bits, EachOperand, EachInstruction, GoodFunction, EachFunction, GoodParts}
 use Rattle.asm_module.proofs.InRange.{reading-good}
@@ -80,9 +79,3 @@ module-thin m g =
 pub ranges : Ranges
 ranges bytes m are r =
     module-thin m (subst (λ (x : Result ModuleParts FormFault). IfOk x GoodParts) r.stands (reading-good r.forms (forms-good bytes r.forms are r.are_forms)))
-
-pub compiles : Compiles
-compiles bytes m are r = (
-  λ a. record { instructions = module_known m a.plain; slots = a.slots; sizes = a.sizes },
-  λ w. record { plain = ranges bytes m are r ∙ w.instructions; label_rules = r.keeps_labels; slots = w.slots; sizes = w.sizes },
-)

@@ -8,14 +8,14 @@ use Rattle.beam_code.specs.declared.operand.Src.{Src}
 use Rattle.beam_code.specs.declared.operand.Src.TheVariants as source
 use Rattle.beam_code.specs.Code as code
 use Rattle.beam_code.specs.Code.{function_code}
-use Rattle.beam_code.specs.Good.{Assignment, next_state}
+use Rattle.beam_code.specs.Good.{Assignment, assignment_of, next_state}
 use Rattle.beam_code.specs.Labels.{with_label, defined_by, defined_in}
 use Rattle.beam_code.specs.Opcode as c
 use Rattle.beam_code.specs.Slots.{State}
 use Rattle.beam_code.specs.Weights.{Place, own_weight, if_reached, defined_ys, charge, weight_at, places_from, places_of, is_wide, entry_labels, entry_weight, whole_weight, saturated}
 use Rattle.erjang_top.specs.first_path.Opcode.{thin, move_of}
 use Rattle.erjang_top.specs.first_path.Weights.{instruction_weight, weight}
-use Rattle.erjang_top.specs.first_path.Bridge.{FunctionFits, most_of_function}
+use Rattle.erjang_compile.specs.Accepted.{FunctionFits, most_of_function}
 use Rattle.erjang_top.proofs.FirstPath.RulesKept.{mapped}
 
 move-weight : (from : Src) (to : Reg) → instruction_weight (move_of from to) ≤ 10
@@ -75,4 +75,4 @@ within at f h =
     (sum (map (entry_weight at (entry_labels at os)) (defined_in os))) (in-places (is_wide at os) at os) h)
 
 pub function_fits : (f : Function) → FunctionFits (function_code f) → weight f ≤ most_of_function
-function_fits f w = within w.1.0 f (subst (λ n. n ≤ most_of_function) w.1.2 w.2)
+function_fits f w = within (assignment_of w.1.slots) f (subst (λ n. n ≤ most_of_function) w.1.sum w.2)

@@ -1,14 +1,12 @@
 -- What is read from a text is in range.
-use Rattle.std.specs.Prelude.{◌≡◌, ◌↔◌, ℕ, Bool, true, nat_lt, List}
-use Rattle.std.specs.List.{list_all, AllByRecursion}
+use Rattle.std.specs.Prelude.{◌≡◌, ℕ, Bool, true, nat_lt, List}
+use Rattle.std.specs.List.{list_all}
 use Rattle.beam_code.specs.declared.module.Module.{Module}
 use Rattle.beam_code.specs.declared.module.Function.{Function}
-use Rattle.erjang_top.specs.first_path.Accepted.{is_thin_module, Accepted}
+use Rattle.erjang_compile.specs.Accepted.{KeepsRules}
+use Rattle.erjang_top.specs.first_path.Accepted.{is_thin_module}
 use Rattle.erjang_top.specs.first_path.LabelRules.{opcodes}
 use Rattle.erjang_top.specs.first_path.Opcode.{is_known}
-use Rattle.erjang_top.specs.first_path.Slots.{WellSlotted}
-use Rattle.erjang_top.specs.first_path.Weights.{fits}
-use Rattle.erjang_top.specs.Sources.{Reads}
 
 -- a function of instructions that are read so far
 abbrev pub knows : Function → Bool
@@ -21,14 +19,4 @@ are_bytes bytes = list_all (λ b. nat_lt b 256) bytes
 -- of a module that is read from a text all names and numbers are in range, so that an instruction that is not read so
 -- far is all that keeps it from being such a module
 abbrev pub Ranges : Type 0
-Ranges = (bytes : List ℕ) (m : Module) → are_bytes bytes ≡ true → Reads bytes m → is_thin_module m ≡ list_all knows m.functions
-
--- each instruction is read so far, the slots are good, and the weights fit
-pub record IsWithin (m : Module) : Type 0 where
-  pub instructions : list_all knows m.functions ≡ true
-  pub slots : AllByRecursion WellSlotted m.functions
-  pub sizes : fits m ≡ true
-
--- a module that is read from a text is not compiled only for another instruction, for a slot or for a weight
-abbrev pub Compiles : Type 0
-Compiles = (bytes : List ℕ) (m : Module) → are_bytes bytes ≡ true → Reads bytes m → Accepted m ↔ IsWithin m
+Ranges = (bytes : List ℕ) (m : Module) → are_bytes bytes ≡ true → KeepsRules bytes m → is_thin_module m ≡ list_all knows m.functions
