@@ -10,6 +10,7 @@ mod fault;
 mod function;
 mod join;
 mod look_up;
+mod pool;
 mod settle;
 mod table;
 mod tags;
@@ -18,4 +19,5 @@ mod weigh;
 
 pub use fault::SlotFault;
 pub use function::weight;
+pub use pool::pool_weight;
 pub use settle::kinds;
