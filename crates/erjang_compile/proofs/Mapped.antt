@@ -1,0 +1,91 @@
+-- Slot maps, and what they tell of their functions.
+use Rattle.std.proofs.Common.{◌≡◌, ◌<◌, ◌≤◌, ℕ, zero, suc, ◌+◌, List, [], ◌∷◌, ◌++◌, take, length, get_or, refl, sym, ap, subst, ◌∙◌, inl, inr, arith}
+use Rattle.std.specs.Prelude.{◌⊎◌}
+use Rattle.std.specs.List.{All, AllWithin, AllZip}
+use Rattle.std.proofs.lemmas.List.{take_all}
+use Rattle.beam_code.specs.declared.slot_state.SlotMap.{SlotMap}
+use Rattle.beam_code.specs.Code.{FunctionCode, no_function}
+use Rattle.beam_code.specs.Good.{assignment_of}
+use Rattle.beam_code.specs.Weights.{weight}
+use Rattle.slot_kinds.specs.Settles.{IsBest}
+use Rattle.erjang_compile.specs.Accepted.{WellSlotted, Weighs, FunctionFits}
+
+-- an element that is there is the same whatever stands for none
+pub element-same : {A : Type 0} (xs : List A) (k : ℕ) (d e : A) → k < length xs → get_or xs k d ≡ get_or xs k e
+element-same [] k d e l = absurd (omega (arith, l))
+element-same (x ∷ xs) zero d e l = refl
+element-same (x ∷ xs) (suc k) d e l = element-same xs k d e (omega (arith, l))
+
+module _ {A B : Type 0} (R : A → B → Type 0) where
+  pub zip-push : (xs : List A) (ys : List B) (x : A) (y : B) → AllZip R xs ys → R x y → AllZip R (xs ++ x ∷ []) (ys ++ y ∷ [])
+  zip-push [] [] x y p q = (q, tt)
+  zip-push [] (b ∷ ys) x y p q = absurd p
+  zip-push (a ∷ xs) [] x y p q = absurd p
+  zip-push (a ∷ xs) (b ∷ ys) x y p q = (p.0, zip-push xs ys x y p.1 q)
+
+  -- what is told of the first element of each pair
+  pub zip-within : (P : A → Type 0) → ((a : A) (b : B) → R a b → P a) → (n : ℕ) (xs : List A) (ys : List B) → n ≤ length xs → AllZip R (take n xs) ys → AllWithin P xs 0 n
+  zip-within P h zero xs ys le p k d low high = absurd (omega (arith, high))
+  zip-within P h (suc n) [] ys le p k d low high = absurd (omega (arith, le))
+  zip-within P h (suc n) (x ∷ xs) [] le p k d low high = absurd p
+  zip-within P h (suc n) (x ∷ xs) (y ∷ ys) le p zero d low high = h x y p.0
+  zip-within P h (suc n) (x ∷ xs) (y ∷ ys) le p (suc k) d low high = zip-within P h n xs ys (omega (arith, le)) p.1 k d (omega arith) (omega (arith, high))
+
+  pub zip-at : (xs : List A) (ys : List B) (k : ℕ) (d : A) (e : B) → AllZip R xs ys → k < length ys → R (get_or xs k d) (get_or ys k e)
+  zip-at [] [] k d e p l = absurd (omega (arith, l))
+  zip-at [] (y ∷ ys) k d e p l = absurd p
+  zip-at (x ∷ xs) [] k d e p l = absurd p
+  zip-at (x ∷ xs) (y ∷ ys) zero d e p l = p.0
+  zip-at (x ∷ xs) (y ∷ ys) (suc k) d e p l = zip-at xs ys k d e p.1 (omega (arith, l))
+
+  pub zip-length : (xs : List A) (ys : List B) → AllZip R xs ys → length xs ≡ length ys
+  zip-length [] [] p = refl
+  zip-length [] (y ∷ ys) p = absurd p
+  zip-length (x ∷ xs) [] p = absurd p
+  zip-length (x ∷ xs) (y ∷ ys) p = ap suc (zip-length xs ys p.1)
+
+-- one element more has the property
+pub within-more : {A : Type 0} (P : A → Type 0) (xs : List A) (n : ℕ) (e : A) → n < length xs → AllWithin P xs 0 n → P (get_or xs n e) → AllWithin P xs 0 (n + 1)
+within-more {A} P xs n e l p q k d low high = by (compared k n)
+  where
+    compared : (k n : ℕ) → (k < n) ⊎ (n ≤ k)
+    compared k n = grind arith
+
+    by : (k < n) ⊎ (n ≤ k) → P (get_or xs k d)
+    by (inl less) = p k d low less
+    by (inr more) = let e' : k ≡ n = omega (arith, more, high) in subst (λ j. P (get_or xs j d)) (sym e') (subst P (element-same xs n e d l) q)
+
+-- Functions and their maps.
+
+pub maps-more : (fs : List FunctionCode) (func : ℕ) (maps new : List SlotMap) (s : SlotMap) → func < length fs → AllZip IsBest (take func fs) maps
+    → IsBest (get_or fs func no_function) s → new ≡ maps ++ s ∷ [] → AllZip IsBest (take (func + 1) fs) new
+maps-more fs func maps new s l p best is =
+    subst (λ (ms : List SlotMap). AllZip IsBest (take (func + 1) fs) ms) (sym is)
+    (subst (λ (gs : List FunctionCode). AllZip IsBest gs (maps ++ s ∷ [])) (sym (take-next fs func l)) (zip-push IsBest (take func fs) maps (get_or fs func no_function) s p best))
+  where
+    take-next : (fs : List FunctionCode) (n : ℕ) → n < length fs → take (n + 1) fs ≡ take n fs ++ get_or fs n no_function ∷ []
+    take-next [] n l = absurd (omega (arith, l))
+    take-next (f ∷ fs) zero l = refl
+    take-next (f ∷ fs) (suc n) l = ap (λ gs. f ∷ gs) (take-next fs n (omega (arith, l)))
+
+pub maps-all : (fs : List FunctionCode) (n : ℕ) (maps : List SlotMap) → length fs ≤ n → AllZip IsBest (take n fs) maps → AllZip IsBest fs maps
+maps-all fs n maps l p = subst (λ (gs : List FunctionCode). AllZip IsBest gs maps) (take_all n fs l) p
+
+-- what has a map is well slotted
+pub slotted-before : (fs : List FunctionCode) (n : ℕ) (maps : List SlotMap) → n ≤ length fs → AllZip IsBest (take n fs) maps → AllWithin WellSlotted fs 0 n
+slotted-before fs n maps l p = zip-within IsBest WellSlotted (λ f s best. (_, best.best.good)) n fs maps l p
+
+pub all-slotted : (fs : List FunctionCode) (maps : List SlotMap) → AllZip IsBest fs maps → All WellSlotted fs
+all-slotted [] maps p k d l = absurd (omega (arith, l))
+all-slotted (f ∷ fs) [] p k d l = absurd p
+all-slotted (f ∷ fs) (s ∷ maps) p zero d l = let first = p.0 in (_, first.best.good)
+all-slotted (f ∷ fs) (s ∷ maps) p (suc k) d l = all-slotted fs maps p.1 k d (omega (arith, l))
+
+-- Weights of functions under their maps.
+
+pub weighs-so : (fs : List FunctionCode) (maps : List SlotMap) (func w : ℕ) (s : SlotMap) → AllZip IsBest fs maps → func < length maps → s ≡ get_or maps func s
+    → w ≡ weight (assignment_of s) (get_or fs func no_function) → Weighs (get_or fs func no_function) w
+weighs-so fs maps func w s p l is sum = record { slots = s; best = subst (IsBest (get_or fs func no_function)) (sym is) (zip-at IsBest fs maps func no_function s p l); sum = sum }
+
+pub all-fit : (fs : List FunctionCode) (maps : List SlotMap) (n : ℕ) → AllZip IsBest fs maps → length maps ≤ n → AllWithin FunctionFits fs 0 n → All FunctionFits fs
+all-fit fs maps n p l fit k d high = fit k d (omega arith) (omega (arith, high, l, zip-length IsBest fs maps p))
