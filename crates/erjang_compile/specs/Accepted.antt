@@ -1,6 +1,6 @@
 -- Which bytes are the source of a module, and which modules fit into a class file.
 use Rattle.std.specs.Prelude.{◌≡◌, ℕ, suc, ◌≤◌, nat_lt, Bool, List, [], ◌∷◌, ◌++◌, map, length, encode_utf8_all, Option, None, Some, option_map}
-use Rattle.std.specs.List.{All, filter_map, find}
+use Rattle.std.specs.List.{All, AllZip, filter_map, find}
 use Rattle.ej_term.specs.declared.asm_term.AsmTerm.{AsmTerm}
 use Rattle.ej_term.specs.AsmValue.{value}
 use Rattle.ej_term.specs.Term.{Term}
@@ -36,6 +36,10 @@ WellSlotted f = (at : Assignment) × Good f at
 pub record Read (bytes : List ℕ) (m : Module) : Type 0 where
   pub rules : KeepsRules bytes m
   pub slotted : All WellSlotted (module_code m).functions
+
+-- the slot maps of the functions, in their order: the most defined good assignments, for exactly the labels of each
+abbrev pub AreMaps : ModuleCode → List SlotMap → Type 0
+AreMaps m maps = AllZip IsBest m.functions maps
 
 -- What fits.
 

@@ -1,10 +1,8 @@
 -- What the functions owe one another.
 use Rattle.std.specs.Prelude.{◌≡◌, ℕ, nat_lt, Bool, List, Result, Ok, Err, Option, MatchOption}
-use Rattle.std.specs.List.{AllZip, filter_map, find}
+use Rattle.std.specs.List.{filter_map, find}
 use Rattle.beam_code.specs.declared.operand.Src.{Src}
-use Rattle.beam_code.specs.declared.slot_state.SlotMap.{SlotMap}
 use Rattle.beam_code.specs.Code.{ModuleCode}
-use Rattle.slot_kinds.specs.Settles.{IsBest}
 use Rattle.erjang_compile.specs.declared.fault.Large.{Large}
 use Rattle.erjang_compile.specs.declared.fault.Large.TheVariants as large
 use Rattle.erjang_compile.specs.declared.fault.SourceFault.{SourceFault}
@@ -21,10 +19,6 @@ Answers found refused (Err f) = refused f
 -- the first fault, whether sizes are looked at or not
 abbrev pub IsFirst : List ℕ → SourceFault → Type 0
 IsFirst bytes f = (sizes : Bool) → Refuses sizes bytes f
-
--- the slot maps of the functions, in their order
-abbrev pub AreMaps : ModuleCode → List SlotMap → Type 0
-AreMaps m maps = AllZip IsBest m.functions maps
 
 -- the fault is that a function is the first that is not well slotted
 abbrev pub IsUnslotted : ModuleCode → SourceFault → Type 0

@@ -3,9 +3,10 @@
 ghost use Rattle.std.specs.Prelude.{IfErr, IfOk};
 ghost use Rattle.beam_code.specs.Code.{module_code};
 ghost use Rattle.beam_code.specs.Labels.{KeepsLabelRules};
-ghost use Rattle.erjang_compile.specs.Accepted.{KeepsRules};
-ghost use Rattle.erjang_compile.specs.Answers.{Answers, AreMaps, IsFirst, IsUnslotted};
+ghost use Rattle.erjang_compile.specs.Accepted.{AreMaps, KeepsRules};
+ghost use Rattle.erjang_compile.specs.Answers.{Answers, IsFirst, IsUnslotted};
 ghost use Rattle.erjang_compile.specs.Faults.{Passes, Refuses};
+ghost use Rattle.erjang_compile.specs.Laws.{OneAnswer};
 
 use crate::fault::SourceFault;
 use crate::sizes::first_large;
@@ -27,10 +28,12 @@ use std::alloc::Global;
 /// none of a module; the first break of a label rule; the first function that is not well slotted; and, where `sizes` is
 /// true, the first function of a weight above 32,767, a weight of the constants above 65,534, and the first literal whose
 /// canonical print has more than 65,535 bytes. `NoMemory` where memory was wanting, in whichever check.
+#[tactic(auto, using(crate::proofs::OneAnswer::law))]
 pub fn accept(alloc: Global, bytes: &[u8], sizes: bool) -> Result<Source, SourceFault>
     ensures passes { IfOk result (λ source. Passes sizes bytes.now source.module) }
     ensures mapped { IfOk result (λ source. AreMaps (module_code source.module) source.maps) }
     ensures first { IfErr result (Refuses sizes bytes.now) }
+    ensures one { OneAnswer sizes bytes.now }
 {
     let module = checked(alloc, bytes)?;
     let maps = slot_maps(alloc, &module)?;

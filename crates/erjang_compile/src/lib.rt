@@ -7,12 +7,10 @@
 
 mod accept;
 mod fault;
-mod laws;
 mod literals;
 mod sizes;
 mod source;
 
 pub use accept::accept;
 pub use fault::{Large, SourceFault};
-pub use laws::sources_have_one_answer;
 pub use source::Source;

@@ -3,8 +3,8 @@
 ghost use Rattle.std.specs.Prelude.{IfOk, MatchOption};
 ghost use Rattle.std.specs.List.{All};
 ghost use Rattle.beam_code.specs.Code.{module_code};
-ghost use Rattle.erjang_compile.specs.Accepted.{FunctionFits};
-ghost use Rattle.erjang_compile.specs.Answers.{AreMaps, TellsLarge};
+ghost use Rattle.erjang_compile.specs.Accepted.{AreMaps, FunctionFits};
+ghost use Rattle.erjang_compile.specs.Answers.{TellsLarge};
 ghost use Rattle.erjang_compile.specs.Faults.{IsTooLarge};
 
 use crate::fault::Large;
