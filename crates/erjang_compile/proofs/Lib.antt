@@ -1,6 +1,7 @@
 mod OneWeight
 mod OneCount
-pub mod OneSource
+mod OneSource
 pub mod OneAnswer
-pub mod Longest
-pub mod Mapped
+mod Mapped
+mod Longest
+mod PrintBytes
