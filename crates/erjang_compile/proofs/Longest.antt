@@ -71,7 +71,7 @@ module _ (func index : ℕ) (o : Opcode) (rest left whole : List Opcode) (e : le
 
   pub code-later : None ≡ first_over (sources_in o) → find is_long (literals_in_code func (index + 1) rest) ≡ find is_long (literals_in_code func 0 whole)
   code-later is =
-      ap (λ n. find is_long (literals_in_code func n rest)) (sym (add-one index))
+      ap (λ n. find is_long (literals_in_code func n rest)) (add-one index)
       ∙ ap (λ first. option_or (option_map (made func index) first) (find is_long (literals_in_code func (suc index) rest))) is
       ∙ told
 
@@ -100,7 +100,7 @@ module _ (func : ℕ) (f : FunctionCode) (rest left whole : List FunctionCode) (
 
   pub function-later : None ≡ option_map as_large (find is_long (literals_in_code func 0 f.code)) → find is_long (literals_in (func + 1) rest) ≡ find is_long (literals_in 0 whole)
   function-later is =
-      ap (λ n. find is_long (literals_in n rest)) (sym (add-one func))
+      ap (λ n. find is_long (literals_in n rest)) (add-one func)
       ∙ ap (λ first. option_or first (find is_long (literals_in (suc func) rest))) (sym (none-told _ is))
       ∙ told-all
 

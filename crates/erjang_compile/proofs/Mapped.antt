@@ -1,5 +1,5 @@
 -- Slot maps, and what they tell of their functions.
-use Rattle.std.proofs.Common.{◌≡◌, ◌<◌, ◌≤◌, ℕ, zero, suc, ◌+◌, List, [], ◌∷◌, ◌++◌, take, length, get_or, refl, sym, ap, subst, ◌∙◌, inl, inr, arith}
+use Rattle.std.proofs.Common.{◌≡◌, ◌<◌, ◌≤◌, ℕ, zero, suc, ◌+◌, List, [], ◌∷◌, ◌++◌, take, length, get_or, refl, sym, ap, subst, ◌∙◌, inl, inr, arith, add-one}
 use Rattle.std.specs.Prelude.{◌⊎◌}
 use Rattle.std.specs.List.{All, AllWithin, AllZip}
 use Rattle.std.proofs.lemmas.List.{take_all}
@@ -63,10 +63,13 @@ maps-more fs func maps new s l p best is =
     subst (λ (ms : List SlotMap). AllZip IsBest (take (func + 1) fs) ms) (sym is)
     (subst (λ (gs : List FunctionCode). AllZip IsBest gs (maps ++ s ∷ [])) (sym (take-next fs func l)) (zip-push IsBest (take func fs) maps (get_or fs func no_function) s p best))
   where
+    behind : (fs : List FunctionCode) (n : ℕ) → n < length fs → take (suc n) fs ≡ take n fs ++ get_or fs n no_function ∷ []
+    behind [] n l = absurd (omega (arith, l))
+    behind (f ∷ fs) zero l = refl
+    behind (f ∷ fs) (suc n) l = ap (λ gs. f ∷ gs) (behind fs n (omega (arith, l)))
+
     take-next : (fs : List FunctionCode) (n : ℕ) → n < length fs → take (n + 1) fs ≡ take n fs ++ get_or fs n no_function ∷ []
-    take-next [] n l = absurd (omega (arith, l))
-    take-next (f ∷ fs) zero l = refl
-    take-next (f ∷ fs) (suc n) l = ap (λ gs. f ∷ gs) (take-next fs n (omega (arith, l)))
+    take-next fs n l = ap (λ k. take k fs) (add-one n) ∙ behind fs n l
 
 pub maps-all : (fs : List FunctionCode) (n : ℕ) (maps : List SlotMap) → length fs ≤ n → AllZip IsBest (take n fs) maps → AllZip IsBest fs maps
 maps-all fs n maps l p = subst (λ (gs : List FunctionCode). AllZip IsBest gs maps) (take_all n fs l) p

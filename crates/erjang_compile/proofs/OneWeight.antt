@@ -96,9 +96,9 @@ kind-listed [] n h = refl
 kind-listed (kind ∷ kinds) zero h = (and_parts (is_kind kind) (list_all is_kind kinds) h).0
 kind-listed (kind ∷ kinds) (suc n) h = kind-listed kinds n (and_parts (is_kind kind) (list_all is_kind kinds) h).1
 
-same-kinds : (as bs : List Kind) → list_all is_kind as ≡ true → list_all is_kind bs ≡ true
-    → ((n : ℕ) → below_kind (listed as n) (listed bs n) ≡ true) → ((n : ℕ) → below_kind (listed bs n) (listed as n) ≡ true) → (n : ℕ) → listed as n ≡ listed bs n
-same-kinds as bs f g p q n = same-kind (listed as n) (listed bs n) (kind-listed as n f) (kind-listed bs n g) (p n) (q n)
+same-kinds : (xs ys : List Kind) → list_all is_kind xs ≡ true → list_all is_kind ys ≡ true
+    → ((n : ℕ) → below_kind (listed xs n) (listed ys n) ≡ true) → ((n : ℕ) → below_kind (listed ys n) (listed xs n) ≡ true) → (n : ℕ) → listed xs n ≡ listed ys n
+same-kinds xs ys f g p q n = same-kind (listed xs n) (listed ys n) (kind-listed xs n f) (kind-listed ys n g) (p n) (q n)
 
 same-state : (s t : SlotState) → Below (state_of s) (state_of t) → Below (state_of t) (state_of s) → state_of s ≡ state_of t
 same-state s t p q = λ i. record {

@@ -5,12 +5,12 @@
 //! answers exactly what is wrong first, in the order of these checks.
 #![tactic(auto)]
 
-mod accept;
+mod checks;
 mod fault;
 mod literals;
 mod sizes;
 mod source;
 
-pub use accept::accept;
+pub use checks::accept;
 pub use fault::{Large, SourceFault};
 pub use source::Source;

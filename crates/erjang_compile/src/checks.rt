@@ -30,8 +30,8 @@ use std::alloc::Global;
 /// canonical print has more than 65,535 bytes. `NoMemory` where memory was wanting, in whichever check.
 #[tactic(auto, using(crate::proofs::OneAnswer::law))]
 pub fn accept(alloc: Global, bytes: &[u8], sizes: bool) -> Result<Source, SourceFault>
-    ensures passes { IfOk result (λ source. Passes sizes bytes.now source.module) }
-    ensures mapped { IfOk result (λ source. AreMaps (module_code source.module) source.maps) }
+    ensures passes { IfOk result (λ source. Passes sizes bytes.now source.«module») }
+    ensures mapped { IfOk result (λ source. AreMaps (module_code source.«module») source.maps) }
     ensures first { IfErr result (Refuses sizes bytes.now) }
     ensures one { OneAnswer sizes bytes.now }
 {
