@@ -1,14 +1,16 @@
 -- Slot maps, and what they tell of their functions.
-use Rattle.std.proofs.Common.{◌≡◌, ◌<◌, ◌≤◌, ℕ, zero, suc, ◌+◌, List, [], ◌∷◌, ◌++◌, take, length, get_or, refl, sym, ap, subst, ◌∙◌, inl, inr, arith, add-one}
+use Rattle.std.proofs.Common.{◌≡◌, ◌<◌, ◌≤◌, ℕ, zero, suc, ◌+◌, List, [], ◌∷◌, ◌++◌, map, take, length, get_or, refl, sym, ap, subst, ◌∙◌, inl, inr, arith, add-one}
 use Rattle.std.specs.Prelude.{◌⊎◌}
 use Rattle.std.specs.List.{All, AllWithin, AllZip}
-use Rattle.std.proofs.lemmas.List.{take_all}
+use Rattle.std.proofs.lemmas.List.{take_all, length-map}
 use Rattle.beam_code.specs.declared.slot_state.SlotMap.{SlotMap}
-use Rattle.beam_code.specs.Code.{FunctionCode, no_function}
-use Rattle.beam_code.specs.Good.{assignment_of}
+use Rattle.beam_code.specs.declared.module.Module.{Module}
+use Rattle.beam_code.specs.Code.{FunctionCode, function_at, function_code, module_code, no_function}
+use Rattle.beam_code.specs.Good.{NoneGood, assignment_of}
 use Rattle.beam_code.specs.Weights.{weight}
 use Rattle.slot_kinds.specs.Settles.{IsBest}
-use Rattle.erjang_compile.specs.Accepted.{WellSlotted, Weighs, FunctionFits}
+use Rattle.erjang_compile.specs.Accepted.{AreMaps, WellSlotted, Weighs, FunctionFits, most_of_function}
+use Rattle.erjang_compile.specs.Faults.{FirstHeavy, FirstUnslotted}
 
 -- an element that is there is the same whatever stands for none
 pub element-same : {A : Type 0} (xs : List A) (k : ℕ) (d e : A) → k < length xs → get_or xs k d ≡ get_or xs k e
@@ -92,3 +94,44 @@ weighs-so fs maps func w s p l is sum = record { slots = s; best = subst (IsBest
 
 pub all-fit : (fs : List FunctionCode) (maps : List SlotMap) (n : ℕ) → AllZip IsBest fs maps → length maps ≤ n → AllWithin FunctionFits fs 0 n → All FunctionFits fs
 all-fit fs maps n p l fit k d high = fit k d (omega arith) (omega (arith, high, l, zip-length IsBest fs maps p))
+
+-- Of a module.
+
+pub maps-in-range : (m : Module) (maps : List SlotMap) (func : ℕ) → AreMaps (module_code m) maps → func < length maps → func < length m.functions
+maps-in-range m maps func p l = omega (arith, l, zip-length IsBest (map function_code m.functions) maps p, length-map function_code m.functions)
+
+pub functions-in-range : (m : Module) (func : ℕ) → func < length m.functions → func < length (map function_code m.functions)
+functions-in-range m func l = omega (arith, l, length-map function_code m.functions)
+
+module _ (m : Module) (maps : List SlotMap) (func w : ℕ) (s : SlotMap) (p : AreMaps (module_code m) maps) (l : func < length maps) (is : s ≡ get_or maps func s)
+    (fit : AllWithin FunctionFits (module_code m).functions 0 func) (sum : w ≡ weight (assignment_of s) (function_at (module_code m) func)) where
+  there : func < length (map function_code m.functions)
+  there = functions-in-range m func (maps-in-range m maps func p l)
+
+  weighs : Weighs (function_at (module_code m) func) w
+  weighs = weighs-so (map function_code m.functions) maps func w s p l is sum
+
+  pub heavy-so : most_of_function < w → FirstHeavy (module_code m) func w
+  heavy-so heavy = record { in_range = there; before = fit; weighs = weighs; heavy = heavy }
+
+  pub fits-more : w ≤ most_of_function → AllWithin FunctionFits (module_code m).functions 0 (func + 1)
+  fits-more light = within-more FunctionFits (map function_code m.functions) func no_function there fit (w, weighs, light)
+
+pub all-functions-fit : (m : Module) (maps : List SlotMap) (n : ℕ) → AreMaps (module_code m) maps → length maps ≤ n → AllWithin FunctionFits (module_code m).functions 0 n
+    → All FunctionFits (module_code m).functions
+all-functions-fit m maps n p l fit = all-fit (map function_code m.functions) maps n p l fit
+
+pub unslotted-so : (m : Module) (maps : List SlotMap) (func : ℕ) → func < length m.functions → AllZip IsBest (take func (module_code m).functions) maps → NoneGood (function_at (module_code m) func)
+    → FirstUnslotted (module_code m) func
+unslotted-so m maps func l p none = record {
+  in_range = functions-in-range m func l;
+  before = slotted-before (map function_code m.functions) func maps (omega (arith, functions-in-range m func l)) p;
+  none = none;
+}
+
+pub one-map-more : (m : Module) (maps new : List SlotMap) (func : ℕ) (s : SlotMap) → func < length m.functions → AllZip IsBest (take func (module_code m).functions) maps
+    → IsBest (function_at (module_code m) func) s → new ≡ maps ++ s ∷ [] → AllZip IsBest (take (func + 1) (module_code m).functions) new
+one-map-more m maps new func s l p best is = maps-more (map function_code m.functions) func maps new s (functions-in-range m func l) p best is
+
+pub all-mapped : (m : Module) (maps : List SlotMap) (n : ℕ) → length m.functions ≤ n → AllZip IsBest (take n (module_code m).functions) maps → AreMaps (module_code m) maps
+all-mapped m maps n l p = maps-all (map function_code m.functions) n maps (omega (arith, l, length-map function_code m.functions)) p

@@ -22,20 +22,21 @@ use Rattle.erjang_compile.specs.Accepted.{Weighs}
 
 below-all : (n k : ℕ) (ms : List ℕ) → rises_from n ms ≡ true → is_in ms k ≡ true → n < k
 below-all n k [] r h = absurd (true≢false (sym h))
-below-all n k (m ∷ ms) r h = by (nat_eq k m) refl h
+below-all n k (m ∷ ms) r h = let parts = and_parts (nat_lt n m) (rises_from m ms) r in by (nat_eq k m) refl parts.0 (below-all m k ms parts.1) h
   where
-    parts = and_parts (nat_lt n m) (rises_from m ms) r
-
-    by : (b : Bool) → nat_eq k m ≡ b → (b || is_in ms k) ≡ true → n < k
-    by true e h = let first = parts.0 in grind (arith, nat_tests)
-    by false e h = let first = parts.0 in let later = below-all m k ms parts.1 h in grind (arith, nat_tests)
+    by : (b : Bool) → nat_eq k m ≡ b → nat_lt n m ≡ true → (is_in ms k ≡ true → m < k) → (b || is_in ms k) ≡ true → n < k
+    by true e first behind h = grind (arith, nat_tests)
+    by false e first behind h = let later = behind h in grind (arith, nat_tests)
 
 rises-behind : (n : ℕ) (ms : List ℕ) → rises_from n ms ≡ true → rises ms ≡ true
 rises-behind n [] r = refl
 rises-behind n (m ∷ ms) r = (and_parts (nat_lt n m) (rises_from m ms) r).1
 
 is-head : (n : ℕ) (ns : List ℕ) → is_in (n ∷ ns) n ≡ true
-is-head n ns = ap (λ b. b || is_in ns n) (grind (arith, nat_tests))
+is-head n ns = ap (λ b. b || is_in ns n) (same n)
+  where
+    same : (n : ℕ) → nat_eq n n ≡ true
+    same n = grind (arith, nat_tests)
 
 in-tail : (n k : ℕ) (ns : List ℕ) → is_in ns k ≡ true → is_in (n ∷ ns) k ≡ true
 in-tail n k ns h = by (nat_eq k n) h
@@ -115,12 +116,12 @@ IsListed (Some s) = (t : SlotState) × (s ≡ state_of t)
 
 is-listed : (entries : List (ℕ × Option SlotState)) (label : ℕ) → IsListed (listed_at entries label)
 is-listed [] label = tt
-is-listed (entry ∷ entries) label = by (nat_eq entry.0 label) entry.1
+is-listed (entry ∷ entries) label = by (nat_eq entry.0 label) entry.1 (is-listed entries label)
   where
-    by : (b : Bool) (o : Option SlotState) → IsListed (if b then option_map state_of o else listed_at entries label)
-    by true None = tt
-    by true (Some t) = (t, refl)
-    by false o = is-listed entries label
+    by : (b : Bool) (o : Option SlotState) → IsListed (listed_at entries label) → IsListed (if b then option_map state_of o else listed_at entries label)
+    by true None later = tt
+    by true (Some t) later = (t, refl)
+    by false o later = later
 
 same-listed : (a b : State) (s t : SlotState) → a ≡ state_of s → b ≡ state_of t → Below a b → Below b a → a ≡ b
 same-listed a b s t e f p q =
@@ -138,13 +139,13 @@ label_in e = e.0
 -- a label that is not listed has none
 unlisted : (entries : List (ℕ × Option SlotState)) (label : ℕ) → is_in (map label_in entries) label ≡ false → listed_at entries label ≡ None
 unlisted [] label h = refl
-unlisted (entry ∷ entries) label h = by (nat_eq entry.0 label) (nat_eq label entry.0) refl refl h
+unlisted (entry ∷ entries) label h = by (nat_eq entry.0 label) (nat_eq label entry.0) refl refl (unlisted entries label) h
   where
-    by : (b c : Bool) → nat_eq entry.0 label ≡ b → nat_eq label entry.0 ≡ c → (c || is_in (map label_in entries) label) ≡ false
-        → (if b then option_map state_of entry.1 else listed_at entries label) ≡ None
-    by b true e f h = absurd (true≢false h)
-    by true false e f h = absurd (grind (arith, nat_tests))
-    by false false e f h = unlisted entries label h
+    by : (b c : Bool) → nat_eq entry.0 label ≡ b → nat_eq label entry.0 ≡ c → (is_in (map label_in entries) label ≡ false → listed_at entries label ≡ None)
+        → (c || is_in (map label_in entries) label) ≡ false → (if b then option_map state_of entry.1 else listed_at entries label) ≡ None
+    by b true e f later h = absurd (true≢false h)
+    by true false e f later h = absurd (grind (arith, nat_tests))
+    by false false e f later h = later h
 
 -- Maps.
 

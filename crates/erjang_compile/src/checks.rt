@@ -28,7 +28,6 @@ use std::alloc::Global;
 /// none of a module; the first break of a label rule; the first function that is not well slotted; and, where `sizes` is
 /// true, the first function of a weight above 32,767, a weight of the constants above 65,534, and the first literal whose
 /// canonical print has more than 65,535 bytes. `NoMemory` where memory was wanting, in whichever check.
-#[tactic(auto, using(crate::proofs::OneAnswer::law))]
 pub fn accept(alloc: Global, bytes: &[u8], sizes: bool) -> Result<Source, SourceFault>
     ensures passes { IfOk result (λ source. Passes sizes bytes.now source.«module») }
     ensures mapped { IfOk result (λ source. AreMaps (module_code source.«module») source.maps) }
@@ -37,12 +36,13 @@ pub fn accept(alloc: Global, bytes: &[u8], sizes: bool) -> Result<Source, Source
 {
     let module = checked(alloc, bytes)?;
     let maps = slot_maps(alloc, &module)?;
-    if sizes {
-        if let Some(large) = first_large(alloc, &module, maps.as_slice())? {
-            return Err(SourceFault::TooLarge(large));
-        }
+    if !sizes {
+        return Ok(Source { module, maps });
     }
-    Ok(Source { module, maps })
+    match first_large(alloc, &module, maps.as_slice())? {
+        Some(large) => Err(SourceFault::TooLarge(large)),
+        None => Ok(Source { module, maps }),
+    }
 }
 
 // The module whose source the bytes are, where it keeps the label rules.
