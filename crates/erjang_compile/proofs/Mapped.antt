@@ -98,10 +98,10 @@ all-fit fs maps n p l fit k d high = fit k d (omega arith) (omega (arith, high, 
 -- Of a module.
 
 pub maps-in-range : (m : Module) (maps : List SlotMap) (func : ℕ) → AreMaps (module_code m) maps → func < length maps → func < length m.functions
-maps-in-range m maps func p l = omega (arith, l, zip-length IsBest (map function_code m.functions) maps p, length-map function_code m.functions)
+maps-in-range m maps func p l = omega (arith, l, zip-length IsBest (map function_code m.functions) maps p, length-map m.functions function_code)
 
 pub functions-in-range : (m : Module) (func : ℕ) → func < length m.functions → func < length (map function_code m.functions)
-functions-in-range m func l = omega (arith, l, length-map function_code m.functions)
+functions-in-range m func l = omega (arith, l, length-map m.functions function_code)
 
 module _ (m : Module) (maps : List SlotMap) (func w : ℕ) (s : SlotMap) (p : AreMaps (module_code m) maps) (l : func < length maps) (is : s ≡ get_or maps func s)
     (fit : AllWithin FunctionFits (module_code m).functions 0 func) (sum : w ≡ weight (assignment_of s) (function_at (module_code m) func)) where
@@ -134,4 +134,4 @@ pub one-map-more : (m : Module) (maps new : List SlotMap) (func : ℕ) (s : Slot
 one-map-more m maps new func s l p best is = maps-more (map function_code m.functions) func maps new s (functions-in-range m func l) p best is
 
 pub all-mapped : (m : Module) (maps : List SlotMap) (n : ℕ) → length m.functions ≤ n → AllZip IsBest (take n (module_code m).functions) maps → AreMaps (module_code m) maps
-all-mapped m maps n l p = maps-all (map function_code m.functions) n maps (omega (arith, l, length-map function_code m.functions)) p
+all-mapped m maps n l p = maps-all (map function_code m.functions) n maps (omega (arith, l, length-map m.functions function_code)) p

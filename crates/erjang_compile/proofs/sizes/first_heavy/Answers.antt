@@ -2,7 +2,7 @@ use Rattle.erjang_compile.proofs.Mapped.{maps-in-range, heavy-so, fits-more, all
 use Rattle.erjang_compile.proofs.sizes.first_heavy.Goals as goal
 
 pub weight-requires : goal.weight-requires
-weight-requires c = maps-in-range c.args.«module».now c.args.maps.now c.loop-func.func c.requires c.loop-func-test.true
+weight-requires c = record { func_in_range = maps-in-range c.args.«module».now c.args.maps.now c.loop-func.func c.requires c.loop-func-test.true }
 
 pub returns-then-weight-gt-MOST_OF_FUNCTION : goal.returns-then-weight-gt-MOST_OF_FUNCTION
 returns-then-weight-gt-MOST_OF_FUNCTION c =
