@@ -11,9 +11,14 @@ use thiserror::Error;
 #[derive(Clone, Copy, Debug, Error)]
 pub enum Large {
     /// The function weighs so much, which is more than 32,767.
-    Function { func: usize, weight: u64 },
+    Function {
+        func: usize,
+        weight: u64,
+    },
     /// The constants of the module weigh so much, which is more than 65,534.
-    Pool { weight: u64 },
+    Pool {
+        weight: u64,
+    },
     /// The canonical print of a literal of that instruction has so many bytes, which are more than 65,535.
     Literal {
         func: usize,

@@ -21,10 +21,7 @@ use term_text::print;
 const LONGEST_LITERAL: u64 = 65535;
 
 /// The first literal of functions that is too long, in the order of the file. The error says that memory was wanting.
-pub(crate) fn first_long(
-    alloc: Global,
-    functions: &[Function],
-) -> Result<Option<Large>, AllocError>
+pub(crate) fn first_long(alloc: Global, functions: &[Function]) -> Result<Option<Large>, AllocError>
     ensures { IfOk result (λ large. large ≡ option_map as_large (find is_long (literals_in 0 (map function_code functions.now)))) }
 {
     for (func, function) in functions.iter().enumerate() {
