@@ -37,44 +37,43 @@ fn told(alloc: Global, source: &str, sizes: bool) -> Result<String, AllocError> 
     }
 }
 
-// A module of functions of these arities and bodies; the first labels of each function are twice its number and 1 and 2 more.
+// A module of functions of these arities and bodies; the first labels of a function are its number behind a 1 and behind a 2.
 fn module_of(alloc: Global, functions: &str) -> Result<String, AllocError> {
     let mut text = String::new(alloc);
     text.push_str("{module,m}. {exports,[]}. {attributes,[]}. {labels,99}.\n")?;
     for (func, function) in functions.split('&').enumerate() {
         let (arity, body) = function.trim().split_once(' ').unwrap_or(("0", ""));
         push_head(&mut text, func, arity)?;
-        push_body(&mut text, 10 * func, body)?;
+        push_body(&mut text, func, body)?;
     }
     Ok(text)
 }
 
 fn push_head(text: &mut String, func: usize, arity: &str) -> Result<(), AllocError> {
-    let info = 2 * func as u64 + 1;
-    let entry = info + 1;
     write!(
         text,
-        "\n{{function,f{func},{arity},{entry}}}. {{label,{info}}}. {{func_info,{{atom,m}},{{atom,f{func}}},{arity}}}. {{label,{entry}}}. "
+        "\n{{function,f{func},{arity},2{func}}}. {{label,1{func}}}. {{func_info,{{atom,m}},{{atom,f{func}}},{arity}}}. {{label,2{func}}}. "
     )
 }
 
-// Writes a body out; the numbers of its parts begin with that one.
-fn push_body(text: &mut String, first: usize, body: &str) -> Result<(), AllocError> {
+// Writes the body of that function out.
+fn push_body(text: &mut String, func: usize, body: &str) -> Result<(), AllocError> {
     let mut piece = "";
     for (at, part) in body.split('~').enumerate() {
         match at % 3 {
             0 => text.push_str(part)?,
             1 => piece = part,
-            _ => push_times(text, piece, first + at, part.parse::<u16>().unwrap_or(0))?,
+            _ => push_times(text, func, piece, part.parse::<u16>().unwrap_or(0))?,
         }
     }
     Ok(())
 }
 
-fn push_times(text: &mut String, piece: &str, part: usize, times: u16) -> Result<(), AllocError> {
+// The numbers of different functions are different ones.
+fn push_times(text: &mut String, func: usize, piece: &str, times: u16) -> Result<(), AllocError> {
     for time in 0..times {
         match piece.split_once('#') {
-            Some((front, back)) => write!(text, "{front}{part}{time:05}{back}")?,
+            Some((front, back)) => write!(text, "{front}1{func}{time}{back}")?,
             None => text.push_str(piece)?,
         }
     }
