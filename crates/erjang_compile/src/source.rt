@@ -1,9 +1,9 @@
-//! An accepted source.
+//! A source that passed its checks.
 
 use beam_code::{Module, SlotMap};
 use sqlite_items::Items;
 
-/// A module that was accepted, and the most defined good slot map of each of its functions, in their order.
+/// A module, and the slot map of each of its functions, in their order.
 #[derive(Debug, Drop)]
 pub struct Source {
     pub module: Module,

@@ -1,4 +1,4 @@
--- What is said of the faults of a source.
+-- What is said of the fault of a source.
 use Rattle.std.specs.Prelude.{ℕ, List, ◌++◌, codes}
 use Rattle.std.specs.Fmt.{decimal}
 use Rattle.asm_terms.specs.Messages.{message as text_message}
@@ -10,15 +10,16 @@ use Rattle.erjang_compile.specs.declared.fault.Large.TheVariants as large
 use Rattle.erjang_compile.specs.declared.fault.SourceFault.{SourceFault}
 use Rattle.erjang_compile.specs.declared.fault.SourceFault.TheVariants as fault
 
-abbrev pub large_text : Large → List ℕ
-large_text (large.Function func weight) = codes "function " ++ (decimal func ++ (codes ": weight " ++ (decimal weight ++ codes " above 32767")))
-large_text (large.Pool weight) = codes "pool weight " ++ decimal weight ++ codes " above 65534"
-large_text (large.Literal func index bytes) = instruction_text func index (codes ": literal of " ++ (decimal bytes ++ codes " bytes above 65535"))
+-- of what is too large
+abbrev pub large_message : Large → List ℕ
+large_message (large.Function func weight) = codes "function " ++ (decimal func ++ (codes ": weight " ++ (decimal weight ++ codes " above 32767")))
+large_message (large.Pool weight) = codes "pool weight " ++ decimal weight ++ codes " above 65534"
+large_message (large.Literal func index bytes) = instruction_text func index (codes ": literal of " ++ (decimal bytes ++ codes " bytes above 65535"))
 
 abbrev pub message : SourceFault → List ℕ
 message (fault.Text f) = text_message f
 message (fault.Form f) = form_message f
 message (fault.Label f) = label_message f
 message (fault.NotSlotted func) = codes "function " ++ decimal func ++ codes ": undefined slot"
-message (fault.TooLarge size) = large_text size
+message (fault.TooLarge size) = large_message size
 message fault.NoMemory = codes "out of memory"

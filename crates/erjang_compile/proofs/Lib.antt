@@ -1,0 +1,10 @@
+mod OneWeight
+mod OneCount
+mod OneSource
+pub mod OneAnswer
+mod Left
+mod Mapped
+mod Longest
+mod PrintBytes
+mod Reading
+mod Passing
