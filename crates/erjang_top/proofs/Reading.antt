@@ -1,9 +1,8 @@
 -- What reading a source tells of its bytes.
-use Rattle.std.proofs.Common.{◌≡◌, ℕ, suc, ◌<◌, true, nat_lt, List, [], ◌∷◌, Result, Ok, Err, refl, sym, subst}
+use Rattle.std.proofs.Common.{◌≡◌, ℕ, suc, ◌<◌, true, nat_lt, slice_index, List, [], ◌∷◌, Result, Ok, Err, refl, sym, subst}
 use Rattle.std.specs.List.{list_all}
 use Rattle.std.specs.Result.{IsErrAnd}
 use Rattle.std.proofs.lemmas.Bool.{and_from, lt-ltb}
-use Rattle.ej_tables.specs.Bytes.{AreBytes}
 use Rattle.beam_code.specs.declared.module.Module.{Module}
 use Rattle.erjang_compile.specs.declared.fault.SourceFault.{SourceFault}
 use Rattle.erjang_compile.specs.declared.fault.SourceFault.TheVariants as source_fault
@@ -29,10 +28,10 @@ refused bytes fault (Ok m) h e = absurd e
 refused bytes fault (Err f) h e = subst (HasFault bytes) (sym e) (first_fault bytes fault h)
 
 -- bytes are each below 256
-each_byte : (bytes : List ℕ) → AreBytes bytes → are_bytes bytes ≡ true
+each_byte : (bytes : List ℕ) → ((k : ℕ) → slice_index bytes k < 256) → are_bytes bytes ≡ true
 each_byte [] h = refl
 each_byte (b ∷ bytes) h = and_from (nat_lt b 256) (are_bytes bytes) (lt-ltb b 256 (h 0)) (each_byte bytes (λ k. h (suc k)))
 
 -- a module that is read and built
-pub is_compiled : (bytes : List ℕ) (m : Module) → AreBytes bytes → IsSource bytes m → IsSource bytes m × Accepted m
+pub is_compiled : (bytes : List ℕ) (m : Module) → ((k : ℕ) → slice_index bytes k < 256) → IsSource bytes m → IsSource bytes m × Accepted m
 is_compiled bytes m are s = (s, bridges bytes m (each_byte bytes are) s)

@@ -1,11 +1,12 @@
 -- Writing a text in pieces.
-use Rattle.std.proofs.Common.{◌≡◌, ℕ, ◌+◌, ◌<◌, ◌≤◌, inl, inr, List, [], ◌∷◌, ◌++◌, length, take, drop, String, string_bytes, Option, None, Some, Result, Ok, Err, IfOk, IsErrAnd, refl, sym, ap, subst, ◌∙◌, append_assoc, length-append, arith}
+use Rattle.std.proofs.Common.{◌≡◌, ℕ, ◌+◌, ◌<◌, ◌≤◌, inl, inr, List, [], ◌∷◌, ◌++◌, codes, length, take, drop, String, string_bytes, Option, None, Some, Result, Ok, Err, IfOk, IsErrAnd, refl, sym, ap, subst, ◌∙◌, append_assoc, length-append, arith}
+use Rattle.std.specs.Fmt.{decimal}
 use Rattle.std.specs.Option.{option_map}
 use Rattle.std.proofs.lemmas.List.{take-append-drop, take-append-le}
 use Rattle.std.proofs.Math.Seq.{take-append_seam, take-append-add}
 use Rattle.ej_outside.specs.Sink.{SinkState, Takes, Refuses}
 use Rattle.ej_outside.specs.declared.fault.Failed as failed
-use Rattle.erjang_top.specs.Answers.{Refusal, TookAll, TookFront, Says, cause_text}
+use Rattle.erjang_top.specs.Answers.{Refusal, NotBuilt, TookAll, TookFront, Says, cause_text}
 use Rattle.erjang_top.specs.Work.{WritesAll, SaysRefusal, RefusesFor}
 
 -- what was appended twice was appended at once
@@ -74,3 +75,20 @@ pub said_refused : {Z E : Type 0} (file : List ℕ) (cause : Refusal) (r : Resul
     → IfOk r (λ said. string_bytes said ≡ cause_text cause ++ 10 ∷ []) → SaysRefusal file r status old new → RefusesFor (record { file = file; cause = cause }) status old new
 said_refused file cause (Ok said) status old new e p = inl (subst (λ (text : List ℕ). Says 1 (file ++ text) status old new) e p)
 said_refused file cause (Err none) status old new e p = inr p
+
+-- the line about an instruction that is not compiled so far
+ends : (func index : List ℕ) (said : List ℕ) → (codes ": function " ++ (func ++ (codes ", instruction " ++ (index ++ said)))) ++ 10 ∷ []
+    ≡ codes ": function " ++ (func ++ (codes ", instruction " ++ (index ++ (said ++ 10 ∷ []))))
+ends func index said =
+    ap (λ (l : List ℕ). codes ": function " ++ l) (append_assoc func (codes ", instruction " ++ (index ++ said)) (10 ∷ [])
+    ∙ ap (λ (l : List ℕ). func ++ (codes ", instruction " ++ l)) (append_assoc index said (10 ∷ [])))
+
+line_ends : (func index : ℕ) → cause_text (NotBuilt func index) ++ 10 ∷ []
+    ≡ codes ": function " ++ (decimal func ++ (codes ", instruction " ++ (decimal index ++ codes ": not built\n")))
+line_ends func index = ends (decimal func) (decimal index) (codes ": not built")
+
+pub ends_line : {Z E : Type 0} (r : Result (String Z) E) (func index : ℕ)
+    → IfOk r (λ said. string_bytes said ≡ codes ": function " ++ (decimal func ++ (codes ", instruction " ++ (decimal index ++ codes ": not built\n"))))
+    → IfOk r (λ said. string_bytes said ≡ cause_text (NotBuilt func index) ++ 10 ∷ [])
+ends_line (Ok said) func index e = e ∙ sym (line_ends func index)
+ends_line (Err none) func index e = tt

@@ -20,7 +20,7 @@ use Rattle.beam_code.specs.Slots as whole
 use Rattle.erjang_top.specs.first_path.Opcode.{Opcode, thin, is_known}
 use Rattle.erjang_top.specs.first_path.Ranges.{knows}
 use Rattle.erjang_top.specs.first_path.Slots.{Kind, Undefined, Term, OptTerm, Tag, Trace, Marker, State, BelowKind, Below, Assignment, GoesTo, tag_labels, lowest_tag, handlers, caught, GoToEach, IsMoved, with_x, Walk, entry_state, WellSlotted}
-use Rattle.erjang_compile.specs.Accepted as whole
+use Rattle.erjang_compile.specs.Accepted as accepted
 use Rattle.erjang_top.proofs.FirstPath.RulesKept.{mapped}
 
 -- ---- the same kinds and states
@@ -195,7 +195,7 @@ walk at before (o ∷ os) known h = not-true known
 same-entry : (arity : ℕ) → state (whole.entry_state arity) ≡ entry_state arity
 same-entry arity = let p = λ (n : ℕ). choose (nat_lt n arity) k.Term k.Undefined in λ i. record { frame = None; xs = λ n. p n i; ys = λ n. Undefined }
 
-pub slots_good : (f : Function) → knows f ≡ true → whole.WellSlotted (function_code f) → WellSlotted f
+pub slots_good : (f : Function) → knows f ≡ true → accepted.WellSlotted (function_code f) → WellSlotted f
 slots_good f known w = (
   given w.0,
   record {
