@@ -11,8 +11,7 @@ const HEAD: &str =
 
 /// The code of f/1, with further functions in the second row, and the weight: 1,030 where it names nothing, since the atoms
 /// of `func_info` do not count.
-const BODIES: &str =
-    r##"return. ==> 1030
+const BODIES: &str = r##"return. ==> 1030
 return. {function,module_info,0,4}. {label,3}. {line,[]}. {func_info,{atom,m},{atom,module_info},0}. {label,4}. {move,{atom,m},{x,0}}. {call_ext_only,1,{extfunc,erlang,get_module_info,1}}. {function,module_info,1,6}. {label,5}. {line,[]}. {func_info,{atom,m},{atom,module_info},1}. {label,6}. {move,{x,0},{x,1}}. {move,{atom,m},{x,0}}. {call_ext_only,2,{extfunc,erlang,get_module_info,2}}. ==> 1054
 {move,{literal,{a,1}},{x,0}}. {move,{literal,{a,1}},{x,1}}. return. ==> 1034
 {move,{literal,[1|[2]]},{x,0}}. {move,{literal,[1,2]},{x,0}}. return. ==> 1034
