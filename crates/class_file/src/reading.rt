@@ -73,7 +73,11 @@ fn this_verdict(alloc: Global, pool: &[Constant], index: u16) -> Result<Verdict,
 }
 
 /// The index of the class's own entry.
-pub(crate) fn this(alloc: Global, pool: &[Constant], source: &mut Source<'_>) -> Result<u16, ClassFault>
+pub(crate) fn this(
+    alloc: Global,
+    pool: &[Constant],
+    source: &mut Source<'_>,
+) -> Result<u16, ClassFault>
     ensures { Gave (λ n. n) (spec.this pool.now source.old.at source.old.rest) result source.new }
 {
     let at = source.at();

@@ -87,8 +87,16 @@ fn accepts_what_fits(rt: HostRuntime) -> Result<(), Fail> {
         let (functions, answers) = row.split_once(" ==> ").unwrap_or((row, ""));
         let (sized, read) = answers.split_once(" ==> ").unwrap_or((answers, answers));
         let source = module_of(alloc, functions)?;
-        assert_eq!(rt; told(alloc, source.as_str(), true)?.as_str(), sized, "{row}");
-        assert_eq!(rt; told(alloc, source.as_str(), false)?.as_str(), read, "{row}");
+        assert_eq!(rt;
+            told(alloc, source.as_str(), true)?.as_str(),
+            sized,
+            "{row}"
+        );
+        assert_eq!(rt;
+            told(alloc, source.as_str(), false)?.as_str(),
+            read,
+            "{row}"
+        );
     }
     Ok(())
 }

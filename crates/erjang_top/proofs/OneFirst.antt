@@ -42,7 +42,7 @@ one_unbuilt : (bytes : List ℕ) (func index other_func other_index : ℕ) → I
     → Unbuilt func index ≡ Unbuilt other_func other_index
 one_unbuilt bytes func index other_func other_index p q =
     let same = one_place p.read func index other_func other_index p.first
-        (subst (λ m. FirstUnbuilt m other_func other_index) ((one_answer true bytes).same_module q.read p.read q.accepted p.accepted) q.first) in
+    (subst (λ m. FirstUnbuilt m other_func other_index) ((one_answer true bytes).same_module q.read p.read q.accepted p.accepted) q.first) in
     ap₂ (λ (f : ℕ) (i : ℕ). Unbuilt f i) same.0 same.1
 
 -- of a module that is compiled every instruction is

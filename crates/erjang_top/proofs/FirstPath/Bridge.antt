@@ -19,9 +19,10 @@ use Rattle.erjang_top.proofs.FirstPath.WeightBridge.{function_fits}
 all-slotted : (fs : List Function) → list_all knows fs ≡ true → All whole.WellSlotted (map function_code fs) → AllByRecursion WellSlotted fs
 all-slotted [] known h = tt
 all-slotted (f ∷ fs) known h =
-    let p = and_parts (knows f) (list_all knows fs) known in
-    (slots_good f p.0 (All-head whole.WellSlotted (function_code f) (map function_code fs) h),
-    all-slotted fs p.1 (All-tail whole.WellSlotted (function_code f) (map function_code fs) h))
+    let p = and_parts (knows f) (list_all knows fs) known in (
+      slots_good f p.0 (All-head whole.WellSlotted (function_code f) (map function_code fs) h),
+      all-slotted fs p.1 (All-tail whole.WellSlotted (function_code f) (map function_code fs) h),
+    )
 
 all-fit : (fs : List Function) → All FunctionFits (map function_code fs) → list_all (λ f. nat_le (weight f) 32767) fs ≡ true
 all-fit [] h = refl
