@@ -8,7 +8,7 @@ use Rattle.beam_code.specs.declared.module.Module.{Module}
 use Rattle.beam_code.specs.Code.{FunctionCode, function_at, function_code, module_code, no_function}
 use Rattle.beam_code.specs.Good.{NoneGood, assignment_of}
 use Rattle.beam_code.specs.Weights.{weight}
-use Rattle.slot_kinds.specs.Settles.{IsBest}
+use Rattle.slot_kinds.specs.Best.{IsBest}
 use Rattle.erjang_compile.specs.Accepted.{AreMaps, WellSlotted, Weighs, FunctionFits, most_of_function}
 use Rattle.erjang_compile.specs.Faults.{FirstHeavy, FirstUnslotted}
 

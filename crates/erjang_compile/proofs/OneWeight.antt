@@ -15,7 +15,7 @@ use Rattle.beam_code.specs.SlotForm.{rises, rises_from, is_kind}
 use Rattle.beam_code.specs.Slots.{State, Below, BelowIfReached, below_kind, listed, state_of}
 use Rattle.beam_code.specs.Weights.{weight}
 use Rattle.beam_code.proofs.BelowLaw.{all-in}
-use Rattle.slot_kinds.specs.Settles.{IsBest}
+use Rattle.slot_kinds.specs.Best.{IsBest}
 use Rattle.erjang_compile.specs.Accepted.{Weighs}
 
 -- Labels that rise.

@@ -17,7 +17,7 @@ use Rattle.beam_code.specs.Labels.{KeepsLabelRules}
 use Rattle.beam_code.specs.Opcode.{Opcode}
 use Rattle.beam_code.specs.Pool.{PoolWeight, sources_in}
 use Rattle.beam_code.specs.Weights.{weight}
-use Rattle.slot_kinds.specs.Settles.{IsBest}
+use Rattle.slot_kinds.specs.Best.{IsBest}
 
 -- What is read.
 

@@ -32,7 +32,8 @@ use Rattle.slot_kinds.specs.Tags.{NamesKnown}
 use Rattle.slot_kinds.specs.Tables.{known, state_in, held, places, is_pending, work, Nothing, Goes, Refuses, ArePlaces}
 use Rattle.slot_kinds.specs.Rows.{IsFresh}
 use Rattle.slot_kinds.specs.Walks.{KeepsFrom, KeepsEach}
-use Rattle.slot_kinds.specs.Settles.{IsQuiet, SettlesTo, entry_of, IsBest}
+use Rattle.slot_kinds.specs.Best.{IsBest}
+use Rattle.slot_kinds.specs.Settles.{IsQuiet, SettlesTo, entry_of}
 use Rattle.slot_kinds.proofs.GoesLaw.{goes-none, goes-end, Outcome}
 use Rattle.slot_kinds.proofs.SegmentLaw.{under-same, under-under, segment-none, segment-more, segment-below, segment-behind, good-from}
 

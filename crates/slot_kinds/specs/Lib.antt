@@ -8,5 +8,6 @@ pub mod Tags
 pub mod Tables
 pub mod Rows
 pub mod Walks
+pub mod Best
 pub mod Settles
 pub mod Named

@@ -1,10 +1,7 @@
--- The table of labels when each label's code is kept, and the slot map that is made of it.
-use Rattle.std.specs.Prelude.{◌≡◌, ℕ, false, List, map, Option}
-use Rattle.beam_code.specs.declared.slot_state.SlotMap.{SlotMap}
+-- The table of labels when each label's code is kept.
+use Rattle.std.specs.Prelude.{◌≡◌, ℕ, false, List, Option}
 use Rattle.beam_code.specs.declared.slot_state.SlotState.{SlotState}
-use Rattle.beam_code.specs.Code.{FunctionCode}
-use Rattle.beam_code.specs.Good.{Assignment, MostDefined, assignment_of}
-use Rattle.beam_code.specs.Labels.{is_in, defined_in}
+use Rattle.beam_code.specs.Good.{Assignment}
 use Rattle.beam_code.specs.Opcode.{Opcode}
 use Rattle.slot_kinds.specs.declared.table.Row.{Row}
 use Rattle.slot_kinds.specs.declared.table.Table.{Table}
@@ -26,8 +23,3 @@ pub record SettlesTo (code : List Opcode) (old new : Table) : Type 0 where
 -- the label and the state of a row
 abbrev pub entry_of : ℕ × Row → ℕ × Option SlotState
 entry_of e = (e.0, e.1.state)
-
--- the assignment of a map is the most defined good one, and it lists the labels of the function
-pub record IsBest (f : FunctionCode) (m : SlotMap) : Type 0 where
-  pub best : MostDefined f (assignment_of m)
-  pub lists : (label : ℕ) → is_in (map (λ (e : ℕ × Option SlotState). e.0) m.at) label ≡ is_in (defined_in f.code) label

@@ -8,7 +8,7 @@ use Rattle.beam_code.specs.Code.{function_code}
 use Rattle.erjang_compile.specs.Accepted.{FunctionFits}
 use Rattle.erjang_compile.specs.Accepted as whole
 use Rattle.erjang_top.specs.first_path.Bridge.{Bridges}
-use Rattle.erjang_top.specs.first_path.Ranges.{knows}
+use Rattle.erjang_top.specs.first_path.Built.{knows}
 use Rattle.erjang_top.specs.first_path.Slots.{WellSlotted}
 use Rattle.erjang_top.specs.first_path.Weights.{weight, pool_weight}
 use Rattle.erjang_top.proofs.FirstPath.PoolBridge.{pool_fits}

@@ -7,7 +7,7 @@ use Rattle.beam_code.specs.declared.module.Function.{Function}
 use Rattle.beam_code.specs.declared.module.Module.{Module}
 use Rattle.erjang_top.specs.first_path.LabelRules.{opcodes}
 use Rattle.erjang_top.specs.first_path.Opcode.{Opcode, Unknown, is_known}
-use Rattle.erjang_top.specs.first_path.Ranges.{knows}
+use Rattle.erjang_top.specs.first_path.Built.{knows}
 use Rattle.erjang_top.specs.first_path.Built.{FirstUnknown, FirstUnbuilt, NoneUnbuilt, SomeUnbuilt, OneUnbuilt}
 use Rattle.erjang_top.proofs.FirstPath.BuiltSteps.{not-known}
 

@@ -17,7 +17,8 @@ use Rattle.beam_code.specs.Parts.{parts_of, function_parts, module_parts, Module
 use Rattle.erjang_top.proofs.FirstPath.GoodOpcodes.{GoodOpcode, decoded-good}
 use Rattle.asm_module.specs.Terms.{is_word}
 use Rattle.asm_module.specs.declared.fault.FormFault.{FormFault}
-use Rattle.erjang_top.specs.first_path.Ranges.{knows, Ranges}
+use Rattle.erjang_top.specs.first_path.Built.{knows}
+use Rattle.erjang_top.specs.first_path.Ranges.{Ranges}
 use Rattle.erjang_top.proofs.GoodTerms.{forms-good}
 use Rattle.asm_module.specs.Ranges.{Bits, EachOperand, EachInstruction, GoodFunction, EachFunction, GoodParts}
 use Rattle.asm_module.proofs.InRange.{reading-good}

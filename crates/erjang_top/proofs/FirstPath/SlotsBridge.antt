@@ -18,7 +18,7 @@ use Rattle.beam_code.specs.Good as good
 use Rattle.beam_code.specs.Opcode as c
 use Rattle.beam_code.specs.Slots as whole
 use Rattle.erjang_top.specs.first_path.Opcode.{Opcode, thin, is_known}
-use Rattle.erjang_top.specs.first_path.Ranges.{knows}
+use Rattle.erjang_top.specs.first_path.Built.{knows}
 use Rattle.erjang_top.specs.first_path.Slots.{Kind, Undefined, Term, OptTerm, Tag, Trace, Marker, State, BelowKind, Below, Assignment, GoesTo, tag_labels, lowest_tag, handlers, caught, GoToEach, IsMoved, with_x, Walk, entry_state, WellSlotted}
 use Rattle.erjang_compile.specs.Accepted as accepted
 use Rattle.erjang_top.proofs.FirstPath.RulesKept.{mapped}

@@ -1,11 +1,14 @@
 -- The first instruction of a module that the first path does not compile.
-use Rattle.std.specs.Prelude.{◌≡◌, ℕ, true, List, take, Some, slice_get}
+use Rattle.std.specs.Prelude.{◌≡◌, ℕ, Bool, true, List, take, Some, slice_get}
 use Rattle.std.specs.List.{list_all}
 use Rattle.beam_code.specs.declared.module.Function.{Function}
 use Rattle.beam_code.specs.declared.module.Module.{Module}
 use Rattle.erjang_top.specs.first_path.LabelRules.{opcodes}
 use Rattle.erjang_top.specs.first_path.Opcode.{Opcode, Unknown, is_known}
-use Rattle.erjang_top.specs.first_path.Ranges.{knows}
+
+-- a function of instructions that are read so far
+abbrev pub knows : Function → Bool
+knows f = list_all is_known (opcodes f)
 
 -- each instruction of each function is one that is read so far
 abbrev pub AllBuilt : Module → Type 0

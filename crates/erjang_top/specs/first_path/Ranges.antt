@@ -2,15 +2,9 @@
 use Rattle.std.specs.Prelude.{◌≡◌, ℕ, Bool, true, nat_lt, List}
 use Rattle.std.specs.List.{list_all}
 use Rattle.beam_code.specs.declared.module.Module.{Module}
-use Rattle.beam_code.specs.declared.module.Function.{Function}
 use Rattle.erjang_compile.specs.Accepted.{KeepsRules}
 use Rattle.erjang_top.specs.first_path.Accepted.{is_thin_module}
-use Rattle.erjang_top.specs.first_path.LabelRules.{opcodes}
-use Rattle.erjang_top.specs.first_path.Opcode.{is_known}
-
--- a function of instructions that are read so far
-abbrev pub knows : Function → Bool
-knows f = list_all is_known (opcodes f)
+use Rattle.erjang_top.specs.first_path.Built.{knows}
 
 -- each of the bytes is less than 256
 abbrev pub are_bytes : List ℕ → Bool

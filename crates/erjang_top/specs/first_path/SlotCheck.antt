@@ -1,15 +1,10 @@
 -- Which x registers hold a term, front to back from the entry label: nothing branches so far.
-use Rattle.std.specs.Prelude.{ℕ, Bool, true, false, nat_eq, get_or, if◌then◌else◌, List, [], ◌∷◌, Option, None, Some}
+use Rattle.std.specs.Prelude.{ℕ, Bool, true, false, nat_eq, if◌then◌else◌, List, [], ◌∷◌, Option, None, Some}
 use Rattle.std.specs.Option.{option_map_or}
 use Rattle.beam_code.specs.declared.module.Function.{Function}
-use Rattle.erjang_top.specs.first_path.LabelRules.{opcodes, defined_label, no_label_twice}
-use Rattle.std.specs.List.{filter_map}
+use Rattle.erjang_top.specs.first_path.LabelRules.{opcodes}
 use Rattle.erjang_top.specs.first_path.Opcode.{Opcode, Label}
-use Rattle.erjang_top.specs.first_path.Flow.{Holding, arguments, flows}
-
--- the registers that are marked in a table, from 0
-abbrev pub holds : List Bool → Holding
-holds table n = get_or table n false
+use Rattle.erjang_top.specs.first_path.Flow.{arguments, flows}
 
 abbrev pub defines_label : ℕ → Opcode → Bool
 defines_label label (Label n) = nat_eq n label
@@ -23,7 +18,3 @@ behind label (i ∷ code) = if defines_label label i then Some code else behind 
 -- a call of the function reads no register that does not hold a term, and ends well
 abbrev pub passes : Function → Bool
 passes f = option_map_or (flows (arguments f.arity)) (behind f.entry (opcodes f)) true
-
--- no label is defined twice in the function
-abbrev pub labels_differ : Function → Bool
-labels_differ f = no_label_twice (filter_map defined_label (opcodes f))
