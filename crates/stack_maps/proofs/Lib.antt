@@ -1,0 +1,2 @@
+pub mod FramesRead
+pub mod TimesRead
