@@ -1,5 +1,5 @@
 -- How the loop over frames goes on.
-use Rattle.std.proofs.Common.{◌≡◌, ℕ, suc, ◌-◌, ◌<◌, List, [], ◌∷◌, ◌++◌, length, slice_get, Option, None, Some, refl, sym, ap, ◌∙◌, append-nil, length-append, arith}
+use Rattle.std.proofs.Common.{◌≡◌, ℕ, suc, ◌-◌, ◌<◌, List, [], ◌∷◌, ◌++◌, length, slice_get, Option, None, Some, refl, sym, ap, ◌∙◌, subst, append-nil, length-append, arith}
 use Rattle.jvm_code.specs.declared.class.Constant.{Constant}
 use Rattle.stack_maps.specs.declared.fault.MapFault.{MapFault}
 use Rattle.stack_maps.specs.declared.fault.MapFault.TheVariants.{BadMap, NoMemory}
@@ -37,3 +37,8 @@ module _ (pool : List Constant) where
   pub at_end : (front : List MapFrame) (left : ℕ) (rest : List ℕ) (all : Got (List MapFrame)) → left ≡ 0
       → onto front (map_frames pool left (last front) rest) ≡ all → all ≡ Some (front, rest)
   at_end front left rest all l i = sym i ∙ ap (λ n. onto front (map_frames pool n (last front) rest)) l ∙ ap (λ xs. Some (xs, rest)) (append-nil front)
+
+  -- the same, where the last one is known by its equation
+  pub stopped : (front : List MapFrame) (left : ℕ) (rest : List ℕ) (fault : MapFault) (all : Got (List MapFrame)) (before : Option MapFrame) → 0 < left → before ≡ last front
+      → onto front (map_frames pool left (last front) rest) ≡ all → Failed (map_frame pool before rest) fault → Failed all fault
+  stopped front left rest fault all before l e i h = stops front left rest fault all l i (subst (λ b. Failed (map_frame pool b rest) fault) e h)

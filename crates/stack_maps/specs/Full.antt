@@ -35,6 +35,10 @@ abbrev pub IsBehind : Option MapFrame → MapFrame → Type 0
 IsBehind None frame = Unit {0}
 IsBehind (Some before) frame = before.offset < frame.offset
 
+-- an offset has 16 bits
+abbrev pub IsWithin : MapFrame → Type 0
+IsWithin frame = frame.offset < 2 ^ 16
+
 -- offsets rise, and each frame can be spelled
 abbrev pub FitEach : Classes → Option MapFrame → List MapFrame → Type 0
 FitEach classes before [] = Unit {0}

@@ -121,9 +121,13 @@ at_offset offset frame = if nat_le offset 65535 then Some (record { offset = off
 abbrev pub placed : Option MapFrame → ℕ × Frame → Reader MapFrame
 placed before p = if_some (at_offset (maps.offset_after (option_map seen before) p.0) p.1)
 
+-- a tag, and what stands behind it
+abbrev pub shape : List Constant → List VType → Reader (ℕ × Frame)
+shape pool locals = then_read u1 (form pool locals)
+
 -- a frame behind another, if there is one
 abbrev pub map_frame : List Constant → Option MapFrame → Reader MapFrame
-map_frame pool before = then_read u1 (λ tag. then_read (form pool (locals_before before) tag) (placed before))
+map_frame pool before = then_read (shape pool (locals_before before)) (placed before)
 
 abbrev pub map_frames : List Constant → ℕ → Option MapFrame → Reader (List MapFrame)
 map_frames pool zero before = done []

@@ -141,6 +141,19 @@ fn form(
     }
 }
 
+/// A tag, and what stands behind it.
+fn shape(
+    alloc: Global,
+    pool: &[Constant],
+    locals: &[VType],
+    source: &mut Source<'_>,
+) -> Result<(u16, Frame), MapFault>
+    ensures { Gave (λ p. p) (spec.shape pool.now locals.now source.old) result source.new }
+{
+    let tag = source.u1()?;
+    form(alloc, pool, locals, tag, source)
+}
+
 /// The offset of a frame with that delta behind another, if there is one.
 fn offset_after(before: Option<&MapFrame>, delta: u16) -> u32
     ensures { result ≡ maps.offset_after (option_map (λ frame. spec.seen frame.now) before.entry) delta }
@@ -187,13 +200,13 @@ fn map_frame(
     requires { first.now ≡ maps.first }
     ensures { Gave (λ f. f) (spec.map_frame pool.now (option_map (λ frame. frame.now) before.entry) source.old) result source.new }
 {
-    let tag = source.u1()?;
     let locals = locals_before(before, first);
-    let (delta, frame) = form(alloc, pool, locals, tag, source)?;
+    let (delta, frame) = shape(alloc, pool, locals, source)?;
     placed(before, delta, frame)
 }
 
 /// What stands before the first frame of each method.
+#[tactic(auto, using(crate::proofs::TextsFound::process))]
 fn first(alloc: Global) -> Result<Frame, AllocError>
     ensures { IfOk result (λ frame. frame ≡ maps.first) }
 {
@@ -246,6 +259,7 @@ fn all(alloc: Global, bytes: &[u8], pool: &[Constant]) -> Result<Items<MapFrame>
 
 /// The frames of the content of a `StackMapTable`, in the order of their offsets. The parameters of each method are a
 /// process and an int. Answers `BadMap` exactly where no list of frames has the bytes.
+#[tactic(auto, using(crate::proofs::FramesLaw::decodes))]
 pub fn decode(alloc: Global, bytes: &[u8], pool: &[Constant]) -> Result<Items<MapFrame>, MapFault>
     ensures { Decodes pool.now bytes.now result }
 {

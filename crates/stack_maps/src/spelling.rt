@@ -109,6 +109,7 @@ fn push_frame(
     requires stack { length frame.now.frame.stack < 2 ^ 16 }
     ensures bytes { OnOk result (out.new.items ≡ out.old.items ++ maps.form_bytes (spec.full_form classes.now (option_map (λ frame. frame.now) before.entry) frame.now)) }
     ensures fits { OnOk result (maps.IsForm (spec.full_form classes.now (option_map (λ frame. frame.now) before.entry) frame.now)) }
+    ensures within { OnOk result (spec.IsWithin frame.now) }
 {
     out.push(255)?;
     push_u2(out, delta_behind(before, frame.offset))?;
@@ -125,6 +126,7 @@ fn push_frames(
     requires { spec.FitEach classes.now None frames.now }
     ensures bytes { OnOk result (out.new.items ≡ out.old.items ++ flat_map maps.form_bytes (spec.full_forms classes.now None frames.now)) }
     ensures fits { OnOk result (AllByRecursion maps.IsForm (spec.full_forms classes.now None frames.now)) }
+    ensures within { OnOk result (AllByRecursion spec.IsWithin frames.now) }
 {
     let mut before = None;
     for frame in frames {
@@ -137,6 +139,7 @@ fn push_frames(
 /// Bytes that have these frames over each pool in which each index of `classes` is that of a Class of the name beside it:
 /// each frame as a `full_frame`. Each class that a frame names is in `classes`, offsets rise, and there are at most 65,535
 /// frames, and locals and operands of each. The error says that memory was wanting.
+#[tactic(auto, using(crate::proofs::Spelled::spelled))]
 pub fn encode(
     alloc: Global,
     frames: &[MapFrame],
