@@ -14,7 +14,7 @@ use Rattle.stack_maps.specs.declared.fault.MapFault.{MapFault}
 use Rattle.stack_maps.specs.declared.fault.MapFault.TheVariants.{BadMap, NoMemory}
 use Rattle.stack_maps.specs.declared.frame.MapFrame.{MapFrame}
 use Rattle.stack_maps.specs.Gave.{Failed, Given, Decodes}
-use Rattle.stack_maps.specs.Read.{Got, Reader, done, go_on, then_read, u2, seen, locals_before, shape, at_offset, placed, map_frame, map_frames, whole, frames}
+use Rattle.stack_maps.specs.Read.{Got, Reader, done, go_on, then_read, if_some, u2, seen, locals_before, shape, at_offset, placed, map_frame, map_frames, whole, frames}
 use Rattle.stack_maps.proofs.Taken.{Took, took_nothing, took_both, took_as, same_got, chained, number_told, u2_back}
 use Rattle.stack_maps.proofs.TypesLaw.{some_told}
 use Rattle.stack_maps.proofs.FormsTold.{FormTook, form_told}
@@ -122,11 +122,7 @@ at_back at p e l =
 frame_back : (pool : List Constant) (before : Option MapFrame) (form : Form) (p : ℕ × Frame) (rest : List ℕ) → Follows pool (option_map seen before) form p → map_frame pool before (form_bytes form ++ rest) ≡ Some (unseen p, rest)
 frame_back pool before form p rest h =
     ap (λ g. go_on g (placed before)) (form_back pool (maps.frame_before (option_map seen before)) form p.1 rest h.fits h.after)
-    ∙ ap (λ o. if_it o rest) (at_back (maps.offset_after (option_map seen before) (delta_of form)) p h.offset h.within)
-  where
-    abbrev if_it : Option MapFrame → Reader MapFrame
-    if_it None = λ bs. None
-    if_it (Some x) = done x
+    ∙ ap (λ (o : Option MapFrame). if_some o rest) (at_back (maps.offset_after (option_map seen before) (delta_of form)) p h.offset h.within)
 
 frames_back : (pool : List Constant) (before : Option MapFrame) (forms : List Form) (ps : List (ℕ × Frame)) (rest : List ℕ) → FollowEach pool (option_map seen before) forms ps
     → map_frames pool (length forms) before (flat_map form_bytes forms ++ rest) ≡ Some (map unseen ps, rest)

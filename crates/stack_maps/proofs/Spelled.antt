@@ -13,15 +13,17 @@ use Rattle.jvm_code.specs.StackMaps as maps
 use Rattle.stack_maps.specs.declared.frame.MapFrame.{MapFrame}
 use Rattle.stack_maps.specs.Full.{Classes, index_of, IsListed, Fits, IsBehind, FitEach, Holds, info_of, infos_of, delta_behind, full_form, full_forms, IsWithin}
 use Rattle.stack_maps.specs.Read.{seen}
+use Rattle.stack_maps.proofs.FramesLaw.{one_list}
 
 module _ (pool : List Constant) where
   named : (classes : Classes) (name : List ℕ) → Holds pool classes → list_any (λ (class : List ℕ × ℕ). bytes_eq class.0 name) classes ≡ true → maps.NamesClass pool (index_of classes name) name
   named [] name h l = absurd cc
-  named (c ∷ cs) name h l = go (bytes_eq c.0 name) refl l
+  named (c ∷ cs) name h l = go (named cs name h.1) (bytes_eq c.0 name) refl l
     where
-      go : (b : Bool) → bytes_eq c.0 name ≡ b → (b || list_any (λ (class : List ℕ × ℕ). bytes_eq class.0 name) cs) ≡ true → maps.NamesClass pool (if b then c.1 else index_of cs name) name
-      go true e l = subst (maps.NamesClass pool c.1) ((bytes_eq-Decides c.0 name).0 e) h.0
-      go false e l = named cs name h.1 l
+      go : (list_any (λ (class : List ℕ × ℕ). bytes_eq class.0 name) cs ≡ true → maps.NamesClass pool (index_of cs name) name) → (b : Bool) → bytes_eq c.0 name ≡ b
+          → (b || list_any (λ (class : List ℕ × ℕ). bytes_eq class.0 name) cs) ≡ true → maps.NamesClass pool (if b then c.1 else index_of cs name) name
+      go more true e l = subst (maps.NamesClass pool c.1) ((bytes_eq-Decides c.0 name).0 e) h.0
+      go more false e l = more l
 
   module _ (classes : Classes) (h : Holds pool classes) where
     type_is : (t : VType) → IsListed classes t → maps.IsType pool (info_of classes t) t
@@ -59,3 +61,17 @@ spelled classes fs bytes l e f w b pool h = record {
   is = b ∙ ap (λ n. u2 n ++ flat_map maps.form_bytes (full_forms classes None fs)) (sym (counted classes None fs));
   follow = follow pool classes h None fs e f w;
 }
+
+seen_tells : (fs gs : List MapFrame) → map seen fs ≡ map seen gs → fs ≡ gs
+seen_tells fs gs e = sym (back fs) ∙ ap (map unseen) e ∙ back gs
+  where
+    unseen : ℕ × Frame → MapFrame
+    unseen p = record { offset = p.0; frame = p.1 }
+
+    back : (fs : List MapFrame) → map unseen (map seen fs) ≡ fs
+    back [] = refl
+    back (f ∷ fs) = ap (λ fs. f ∷ fs) (back fs)
+
+-- and nothing else
+pub alone : (pool : List Constant) (bytes : List ℕ) (fs gs : List MapFrame) → maps.AreFrames pool bytes (map seen fs) → maps.AreFrames pool bytes (map seen gs) → gs ≡ fs
+alone pool bytes fs gs h i = seen_tells gs fs (one_list pool bytes (map seen gs) (map seen fs) i h)

@@ -47,20 +47,20 @@ chosen true r s bs P z e f g = f refl e
 chosen false r s bs P z e f g = g refl e
 
 -- the same number by a reader with offsets
+abbrev here : ℕ → List ℕ → Bool → Got ℕ
+here n bs c = if c then Some (big_number n bs, drop n bs) else None
+
+abbrev there : ℕ → List ℕ → Bool → reader.Got ℕ
+there n bs c = if c then Ok (big_number n bs, 0 + n, drop n bs) else Err (NotClass 0)
+
+abbrev joined : ℕ → ℕ × List ℕ → reader.Got ℕ
+joined n p = Ok (p.0, 0 + n, p.1)
+
 with_offset : (n : ℕ) (bs : List ℕ) (x : ℕ) (rest : List ℕ) → number n bs ≡ Some (x, rest) → reader.number n 0 bs ≡ Ok (x, 0 + n, rest)
 with_offset n bs x rest e = go (nat_le n (length bs)) refl e
   where
-    abbrev here : Bool → Got ℕ
-    here c = if c then Some (big_number n bs, drop n bs) else None
-
-    abbrev there : Bool → reader.Got ℕ
-    there c = if c then Ok (big_number n bs, 0 + n, drop n bs) else Err (NotClass 0)
-
-    abbrev joined : ℕ × List ℕ → reader.Got ℕ
-    joined p = Ok (p.0, 0 + n, p.1)
-
-    go : (c : Bool) → nat_le n (length bs) ≡ c → here c ≡ Some (x, rest) → there c ≡ joined (x, rest)
-    go true h e = ap (λ g. joined (got_or (x, rest) g)) e
+    go : (c : Bool) → nat_le n (length bs) ≡ c → here n bs c ≡ Some (x, rest) → there n bs c ≡ joined n (x, rest)
+    go true h e = ap (λ g. joined n (got_or (x, rest) g)) e
     go false h e = absurd cc
 
 pub number_told : (n : ℕ) (bs : List ℕ) (x : ℕ) (rest : List ℕ) → AreBytes bs → number n bs ≡ Some (x, rest) → Took bs (big_bytes n x) rest × (x < 256 ^ n)

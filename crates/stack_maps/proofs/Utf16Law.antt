@@ -175,10 +175,7 @@ chars_told fuel [] l h n = record { cs = []; unicode = refl; chars = utf16_chars
 chars_told zero (u ∷ us) l h n = absurd (omega (arith, l))
 chars_told (suc fuel) (u ∷ us) l h n = go (chars_told fuel) us (is_high_surrogate u && is_low_surrogate (get_or us 0 0)) refl l h n
   where
-    abbrev Again : Type 0
-    Again = (us : List ℕ) → length us ≤ fuel → AreUnits us → lost (utf16_chars us) ≡ false → CharsOf us
-
-    go : Again → (us : List ℕ) (b : Bool) → (is_high_surrogate u && is_low_surrogate (get_or us 0 0)) ≡ b → length (u ∷ us) ≤ suc fuel → AreUnits (u ∷ us) → lost (utf16_chars (u ∷ us)) ≡ false → CharsOf (u ∷ us)
+    go : ((us : List ℕ) → length us ≤ fuel → AreUnits us → lost (utf16_chars us) ≡ false → CharsOf us) → (us : List ℕ) (b : Bool) → (is_high_surrogate u && is_low_surrogate (get_or us 0 0)) ≡ b → length (u ∷ us) ≤ suc fuel → AreUnits (u ∷ us) → lost (utf16_chars (u ∷ us)) ≡ false → CharsOf (u ∷ us)
     go again us false e l h n =
         let c = utf16_chars_lone u us (no_pair_told u (get_or us 0 0) e) in
         let t = lone_told u (nat_le 0xD800 u && nat_lt u 0xE000) refl (utf16_chars us) (ap lost (sym c) ∙ n) in

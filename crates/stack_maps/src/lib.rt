@@ -6,6 +6,7 @@
 
 mod fault;
 mod frame;
+mod laws;
 mod reading;
 mod source;
 mod spelling;
@@ -14,5 +15,6 @@ mod types;
 
 pub use fault::MapFault;
 pub use frame::MapFrame;
+pub use laws::bytes_have_one_list_of_frames;
 pub use reading::decode;
 pub use spelling::encode;

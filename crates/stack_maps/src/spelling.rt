@@ -6,6 +6,7 @@ ghost use Rattle.std.specs.Option.{option_map};
 ghost use Rattle.jvm_code.specs.declared.class.Constant.{Constant};
 ghost use Rattle.jvm_code.specs.Spelling as spelling;
 ghost use Rattle.jvm_code.specs.StackMaps as maps;
+ghost use Rattle.stack_maps.specs.declared.frame.MapFrame.{MapFrame as MapFrameSeen};
 ghost use Rattle.stack_maps.specs.Full as spec;
 ghost use Rattle.stack_maps.specs.Read.{seen};
 
@@ -139,7 +140,6 @@ fn push_frames(
 /// Bytes that have these frames over each pool in which each index of `classes` is that of a Class of the name beside it:
 /// each frame as a `full_frame`. Each class that a frame names is in `classes`, offsets rise, and there are at most 65,535
 /// frames, and locals and operands of each. The error says that memory was wanting.
-#[tactic(auto, using(crate::proofs::Spelled::spelled))]
 pub fn encode(
     alloc: Global,
     frames: &[MapFrame],
@@ -147,7 +147,8 @@ pub fn encode(
 ) -> Result<Vec<u8>, AllocError>
     requires few { length frames.now < 2 ^ 16 }
     requires fit { spec.FitEach classes.now None frames.now }
-    ensures { IfOk result (λ bytes. (pool : List Constant) → spec.Holds pool classes.now → maps.AreFrames pool bytes.items (map seen frames.now)) }
+    ensures are { IfOk result (λ bytes. (pool : List Constant) → spec.Holds pool classes.now → maps.AreFrames pool bytes.items (map seen frames.now)) }
+    ensures alone { IfOk result (λ bytes. (pool : List Constant) → spec.Holds pool classes.now → (others : List MapFrameSeen) → maps.AreFrames pool bytes.items (map seen others) → others ≡ frames.now) }
 {
     let mut out = Vec::new(alloc);
     push_u2(&mut out, frames.len() as u16)?;
