@@ -1,6 +1,9 @@
 //! Stack maps: each form of frame at the ends of its tags, each verification type, and bytes that are no frames
 //! (JVMS SE 7, 4.7.4).
 
+ghost use Rattle.std.specs.Prelude.{◌<◌, ◌^◌, length, [], None, IfOk};
+ghost use Rattle.stack_maps.specs.Full.{FitEach};
+
 use crate::rows::{bytes_of, word};
 use ej_term::Text;
 use jvm_code::{Constant, Frame, VType};
@@ -10,7 +13,8 @@ use std::alloc::{AllocError, Global};
 use std::test::Fail;
 
 /// The bytes of texts, from index 1 on. Behind each stands the class that it names.
-const NAMES: &str = "612f42 c3a9 eda0bdedb880 eda080 c080 c3 00 f09f9880 edb080 c181 656c c3a9c3 e08080";
+const NAMES: &str =
+    "612f42 c3a9 eda0bdedb880 eda080 c080 c3 00 f09f9880 edb080 c181 656c c3a9c3 e08080";
 
 /// Bytes, and each frame: its offset, `:`, the locals, `/`, the stack. A type is its first letter, or the name of its class
 /// in `<>`, but P for `erl/Proc`.
@@ -172,10 +176,51 @@ fn refuses_each_part(rt: HostRuntime) -> Result<(), Fail> {
     let bytes = bytes_of(alloc, SMALL)?;
     let frames = decode(alloc, bytes.as_slice(), pool.as_slice())?;
     let shown = shown(alloc, frames.as_slice())?;
-    assert_eq!(rt; shown.as_str(), " 5:PI/ 69:PI/I 74:PI/<a/B> 75:P/ 76:P/ 77:PTLN/ 78:NI/T");
+    assert_eq!(rt;
+        shown.as_str(),
+        " 5:PI/ 69:PI/I 74:PI/<a/B> 75:P/ 76:P/ 77:PTLN/ 78:NI/T"
+    );
     for size in 0..bytes.len() {
         let part = &bytes.as_slice()[..size];
         assert!(rt; decode(alloc, part, pool.as_slice()).is_err());
     }
+    Ok(())
+}
+
+fn two_frames(alloc: Global) -> Result<Items<MapFrame>, AllocError>
+    ensures few { IfOk result (λ frames. length frames < 2 ^ 16) }
+    ensures fit { IfOk result (λ frames. FitEach [] None frames) }
+{
+    let mut locals = Items::new(alloc);
+    locals.push(VType::Long)?;
+    locals.push(VType::Integer)?;
+    let mut stack = Items::new(alloc);
+    stack.push(VType::Null)?;
+    let mut frames = Items::new(alloc);
+    frames.push(MapFrame {
+        offset: 3,
+        frame: Frame { locals, stack },
+    })?;
+    frames.push(MapFrame {
+        offset: 9,
+        frame: Frame {
+            locals: Items::new(alloc),
+            stack: Items::new(alloc),
+        },
+    })?;
+    Ok(frames)
+}
+
+#[test]
+fn spells_full_frames(rt: HostRuntime) -> Result<(), Fail> {
+    let alloc = rt.alloc();
+    let frames = two_frames(alloc)?;
+    let classes: [(Text, u16); 0] = [];
+    let bytes = encode(alloc, frames.as_slice(), &classes)?;
+    let expected = bytes_of(alloc, "0002ff000300020401000105ff000500000000")?;
+    assert!(rt; bytes.as_slice() == expected.as_slice());
+    let again = decode(alloc, bytes.as_slice(), &[])?;
+    let shown = shown(alloc, again.as_slice())?;
+    assert_eq!(rt; shown.as_str(), " 3:LI/N 9:/");
     Ok(())
 }

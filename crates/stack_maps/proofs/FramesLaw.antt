@@ -15,7 +15,7 @@ use Rattle.stack_maps.specs.declared.fault.MapFault.TheVariants.{BadMap, NoMemor
 use Rattle.stack_maps.specs.declared.frame.MapFrame.{MapFrame}
 use Rattle.stack_maps.specs.Gave.{Failed, Given, Decodes}
 use Rattle.stack_maps.specs.Read.{Got, Reader, done, go_on, then_read, if_some, u2, seen, locals_before, shape, at_offset, placed, map_frame, map_frames, whole, frames}
-use Rattle.stack_maps.proofs.Taken.{Took, took_nothing, took_both, took_as, same_got, chained, number_told, u2_back}
+use Rattle.stack_maps.proofs.Taken.{next, Took, took_nothing, took_both, took_as, same_got, chained, number_told, u2_back}
 use Rattle.stack_maps.proofs.TypesLaw.{some_told}
 use Rattle.stack_maps.proofs.FormsTold.{FormTook, form_told}
 use Rattle.stack_maps.proofs.FormsBack.{form_back}
@@ -84,7 +84,7 @@ frames_told pool (suc n) before bs fs rest b e =
     let m = frames_told pool n (Some h.value) h.rest k.value k.rest f.took.bytes k.first in
     record {
       forms = f.form ∷ m.forms;
-      counted = ap suc m.counted;
+      counted = next (length m.forms) n m.counted;
       follow = subst (λ (fs : List MapFrame). FollowEach pool (option_map seen before) (f.form ∷ m.forms) (map seen fs)) s.0 (f.follows, m.follow);
       took = took_both bs (form_bytes f.form) h.rest (flat_map form_bytes m.forms) rest f.took (subst (λ r. Took h.rest (flat_map form_bytes m.forms) r) s.1 m.took);
     }

@@ -9,6 +9,10 @@ use Rattle.jvm_code.specs.Reader as reader
 use Rattle.jvm_code.proofs.Told as told
 use Rattle.stack_maps.specs.Read.{Got, Reader, done, go_on, then_read, number, if_some}
 
+-- one more of so many
+pub next : (k n : ℕ) → k ≡ n → suc k ≡ suc n
+next k n e = ap suc e
+
 -- the front of the bytes was read, and these are left
 pub record Took (bs front rest : List ℕ) : Type 0 where
   pub is : bs ≡ front ++ rest

@@ -12,7 +12,7 @@ use Rattle.jvm_code.specs.Entries.{class_at}
 use Rattle.jvm_code.specs.StackMaps.{TypeInfo, Top, Integer, Long, Null, Object, info_bytes, infos_bytes, IsInfo, IsType, AreTypes, NamesClass, text_bytes}
 use Rattle.stack_maps.specs.Read.{Got, Reader, done, bad, go_on, then_read, if_some, number, u1, u2, times, class_type, object, tagged, vtype, vtypes, counted}
 use Rattle.stack_maps.specs.Texts.{text_of}
-use Rattle.stack_maps.proofs.Taken.{Took, took_nothing, took_both, took_as, same_got, chained, chosen, number_told, u1_back, u2_back}
+use Rattle.stack_maps.proofs.Taken.{next, Took, took_nothing, took_both, took_as, same_got, chained, chosen, number_told, u1_back, u2_back}
 use Rattle.stack_maps.proofs.Utf16Law.{text_told, text_back}
 
 -- ---- what is read tells how it is spelled
@@ -95,7 +95,7 @@ types_told pool (suc n) bs types rest b e =
     let m = types_told pool n h.rest k.value k.rest t.took.bytes k.first in
     record {
       infos = t.info ∷ m.infos;
-      counted = ap suc m.counted;
+      counted = next (length m.infos) n m.counted;
       fits = (t.fits, m.fits);
       are = subst (AreTypes pool (t.info ∷ m.infos)) s.0 (t.is, m.are);
       took = took_both bs (info_bytes t.info) h.rest (infos_bytes m.infos) rest t.took (subst (λ r. Took h.rest (infos_bytes m.infos) r) s.1 m.took);

@@ -6,7 +6,6 @@ ghost use Rattle.jvm_code.specs.declared.types.Frame.{Frame as FrameSeen};
 ghost use Rattle.jvm_code.specs.StackMaps.{AreFrames};
 
 /// Over one constant pool, bytes have at most one list of frames.
-#[tactic(auto, using(crate::proofs::FramesLaw::one_list))]
 pub fn bytes_have_one_list_of_frames()
     ensures { (pool : List ConstantSeen) (bytes : List ℕ) (one other : List (ℕ × FrameSeen)) → AreFrames pool bytes one → AreFrames pool bytes other → one ≡ other }
 {}
