@@ -49,6 +49,13 @@ one_type pool bs types rest t = go t.infos t.counted t.fits t.are t.took
     go (i ∷ []) l f a k = record { info = i; fits = f.0; are = a; took = took_as bs (infos_bytes (i ∷ [])) (info_bytes i) rest (append-nil (info_bytes i)) k }
     go (i ∷ j ∷ is) l f a k = absurd (omega (arith, l))
 
+full_spelled : (delta : ℕ) (locals stack : List maps.TypeInfo)
+    → (big_bytes 1 255 ++ big_bytes 2 delta) ++ ((big_bytes 2 (length locals) ++ infos_bytes locals) ++ (big_bytes 2 (length stack) ++ infos_bytes stack)) ≡ form_bytes (Full delta locals stack)
+full_spelled delta locals stack = ap (λ t. (big_bytes 1 255 ++ big_bytes 2 delta) ++ t) (append_assoc (big_bytes 2 (length locals)) (infos_bytes locals) (big_bytes 2 (length stack) ++ infos_bytes stack))
+
+append_spelled : (tag delta : ℕ) (locals : List maps.TypeInfo) → tag ≡ 251 + length locals → (big_bytes 1 tag ++ big_bytes 2 delta) ++ infos_bytes locals ≡ form_bytes (Append delta locals)
+append_spelled tag delta locals e = append_assoc (big_bytes 1 tag) (big_bytes 2 delta) (infos_bytes locals) ∙ ap (λ n. big_bytes 1 n ++ (big_bytes 2 delta ++ infos_bytes locals)) e
+
 module _ (pool : List Constant) (before : Frame) (bs : List ℕ) (p : ℕ × Frame) (rest : List ℕ) where
   abbrev Told : Type 0
   Told = FormTook pool before bs p rest
@@ -108,7 +115,7 @@ module _ (pool : List Constant) (before : Frame) (bs : List ℕ) (p : ℕ × Fra
         delta = sym (ap (λ p. p.0) g.0);
         after = (record { types = k.value; more = o.are; is = ap (λ p. p.1.locals) (sym g.0) }, ap (λ p. p.1.stack) (sym g.0));
         took = took_as bs ((big_bytes 1 tag ++ big_bytes 2 delta) ++ infos_bytes o.infos) (form_bytes (Append delta o.infos)) rest
-            (append_assoc (big_bytes 1 tag) (big_bytes 2 delta) (infos_bytes o.infos) ∙ ap (λ n. big_bytes 1 n ++ (big_bytes 2 delta ++ infos_bytes o.infos)) (omega (arith, l, o.counted)))
+            (append_spelled tag delta o.infos (omega (arith, l, o.counted)))
             (took_both bs (big_bytes 1 tag ++ big_bytes 2 delta) left (infos_bytes o.infos) rest t (subst (λ r. Took left (infos_bytes o.infos) r) g.1 o.took));
       }
 
@@ -125,7 +132,7 @@ module _ (pool : List Constant) (before : Frame) (bs : List ℕ) (p : ℕ × Fra
         delta = sym (ap (λ p. p.0) g.0);
         after = (subst (AreTypes pool a.infos) (ap (λ p. p.1.locals) g.0) a.are, subst (AreTypes pool b.infos) (ap (λ p. p.1.stack) g.0) b.are);
         took = took_as bs ((big_bytes 1 255 ++ big_bytes 2 delta) ++ ((big_bytes 2 (length a.infos) ++ infos_bytes a.infos) ++ (big_bytes 2 (length b.infos) ++ infos_bytes b.infos))) (form_bytes (Full delta a.infos b.infos)) rest
-            (ap (λ t. (big_bytes 1 255 ++ big_bytes 2 delta) ++ t) (append_assoc (big_bytes 2 (length a.infos)) (infos_bytes a.infos) (big_bytes 2 (length b.infos) ++ infos_bytes b.infos)))
+            (full_spelled delta a.infos b.infos)
             (took_both bs (big_bytes 1 255 ++ big_bytes 2 delta) left _ rest t (took_both left (big_bytes 2 (length a.infos) ++ infos_bytes a.infos) h.rest (big_bytes 2 (length b.infos) ++ infos_bytes b.infos) rest a.took (subst (λ r. Took h.rest (big_bytes 2 (length b.infos) ++ infos_bytes b.infos) r) g.1 b.took)));
       }
 
