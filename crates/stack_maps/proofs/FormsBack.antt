@@ -1,14 +1,14 @@
 -- Forms that are spelled are read.
-use Rattle.std.proofs.Common.{◌≡◌, ℕ, zero, suc, ◌+◌, ◌-◌, ◌<◌, ◌≤◌, ◌^◌, nat_eq, nat_le, nat_lt, Bool, true, false, if◌then◌else◌, List, [], ◌∷◌, ◌++◌, length, take, map, Option, None, Some, refl, sym, ap, ◌∙◌, subst, append_assoc, append-nil, arith}
+use Rattle.std.proofs.Common.{◌≡◌, ℕ, zero, suc, ◌+◌, ◌-◌, ◌<◌, ◌≤◌, ◌^◌, nat_le, nat_lt, true, false, if◌then◌else◌, List, [], ◌∷◌, ◌++◌, length, take, Some, refl, sym, ap, ◌∙◌, append_assoc, append-nil, arith}
 use Rattle.std.proofs.lemmas.Bool.Decides.{nat_tests}
-use Rattle.std.specs.List.{flat_map, AllByRecursion}
+use Rattle.std.specs.List.{AllByRecursion}
 use Rattle.byteorder.specs.Endian.{big_bytes}
 use Rattle.jvm_code.specs.declared.class.Constant.{Constant}
 use Rattle.jvm_code.specs.declared.types.Frame.{Frame}
 use Rattle.jvm_code.specs.declared.types.VType.{VType}
 use Rattle.jvm_code.specs.StackMaps as maps
 use Rattle.jvm_code.specs.StackMaps.{Form, Same, SameOne, SameOneExtended, Chop, SameExtended, Append, Full, form_bytes, IsForm, After, delta_of, info_bytes, infos_bytes, IsInfo, AreTypes, Appends}
-use Rattle.stack_maps.specs.Read.{Got, Reader, done, bad, go_on, then_read, u1, u2, vtypes, counted, same, one, chop, append, full, wide, form, shape}
+use Rattle.stack_maps.specs.Read.{Got, done, bad, go_on, then_read, u2, counted, same, one, chop, append, full, wide, form, shape}
 use Rattle.stack_maps.proofs.Taken.{u1_back, u2_back}
 use Rattle.stack_maps.proofs.TypesLaw.{types_back, counted_back}
 

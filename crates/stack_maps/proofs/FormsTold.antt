@@ -1,8 +1,8 @@
 -- Forms that are read are those that are spelled.
-use Rattle.std.proofs.Common.{◌≡◌, ℕ, zero, suc, ◌+◌, ◌-◌, ◌<◌, ◌≤◌, ◌^◌, nat_eq, nat_le, nat_lt, Bool, true, false, if◌then◌else◌, List, [], ◌∷◌, ◌++◌, length, take, map, Option, None, Some, refl, sym, ap, ◌∙◌, subst, append_assoc, append-nil, arith}
+use Rattle.std.proofs.Common.{◌≡◌, ℕ, ◌+◌, ◌-◌, ◌<◌, ◌≤◌, ◌^◌, nat_eq, nat_le, nat_lt, Bool, true, false, if◌then◌else◌, List, [], ◌∷◌, ◌++◌, length, take, Option, None, Some, refl, sym, ap, ◌∙◌, subst, append_assoc, append-nil, arith}
 use Rattle.std.proofs.lemmas.Bool.{eqb-true, leb-true}
 use Rattle.std.proofs.lemmas.Bool.Decides.{nat_tests}
-use Rattle.std.specs.List.{flat_map, AllByRecursion}
+use Rattle.std.specs.List.{AllByRecursion}
 use Rattle.byteorder.specs.Endian.{big_bytes}
 use Rattle.ej_tables.specs.Bytes.{AreBytes}
 use Rattle.jvm_code.specs.declared.class.Constant.{Constant}
@@ -10,9 +10,9 @@ use Rattle.jvm_code.specs.declared.types.Frame.{Frame}
 use Rattle.jvm_code.specs.declared.types.VType.{VType}
 use Rattle.jvm_code.specs.StackMaps as maps
 use Rattle.jvm_code.specs.StackMaps.{Form, Same, SameOne, SameOneExtended, Chop, SameExtended, Append, Full, form_bytes, IsForm, After, delta_of, info_bytes, infos_bytes, IsInfo, AreTypes}
-use Rattle.stack_maps.specs.Read.{Got, Reader, done, bad, go_on, then_read, u1, u2, vtypes, counted, same, one, chop, append, full, wide, form}
-use Rattle.stack_maps.proofs.Taken.{Took, took_nothing, took_both, took_as, same_got, chained, chosen, number_told, u1_back, u2_back}
-use Rattle.stack_maps.proofs.TypesLaw.{TypesTook, types_told, types_back, counted_told, counted_back}
+use Rattle.stack_maps.specs.Read.{Got, done, bad, then_read, u1, u2, vtypes, counted, same, one, chop, append, full, wide, form}
+use Rattle.stack_maps.proofs.Taken.{Took, took_both, took_as, same_got, chained, chosen, number_told}
+use Rattle.stack_maps.proofs.TypesLaw.{TypesTook, types_told, counted_told}
 
 -- a form that gives a delta and a frame
 pub record FormTook (pool : List Constant) (before : Frame) (bs : List ℕ) (p : ℕ × Frame) (rest : List ℕ) : Type 0 where

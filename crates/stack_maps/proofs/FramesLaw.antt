@@ -1,5 +1,5 @@
 -- Frames that are read are those of the bytes.
-use Rattle.std.proofs.Common.{◌≡◌, ℕ, zero, suc, ◌+◌, ◌<◌, ◌≤◌, ◌^◌, nat_le, Bool, true, false, if◌then◌else◌, List, [], ◌∷◌, ◌++◌, length, map, Option, None, Some, Result, Ok, Err, refl, sym, ap, ◌∙◌, subst, append_assoc, append-nil, arith}
+use Rattle.std.proofs.Common.{◌≡◌, ℕ, zero, suc, ◌<◌, ◌≤◌, ◌^◌, nat_le, Bool, true, false, if◌then◌else◌, List, [], ◌∷◌, ◌++◌, length, map, Option, None, Some, Result, Ok, Err, refl, sym, ap, ◌∙◌, subst, append_assoc, append-nil, arith}
 use Rattle.std.proofs.lemmas.Bool.{leb-true}
 use Rattle.std.proofs.lemmas.Bool.Decides.{nat_tests}
 use Rattle.std.specs.List.{flat_map}
@@ -13,11 +13,11 @@ use Rattle.jvm_code.specs.StackMaps.{Form, form_bytes, delta_of, Follows, Follow
 use Rattle.stack_maps.specs.declared.fault.MapFault.{MapFault}
 use Rattle.stack_maps.specs.declared.fault.MapFault.TheVariants.{BadMap, NoMemory}
 use Rattle.stack_maps.specs.declared.frame.MapFrame.{MapFrame}
-use Rattle.stack_maps.specs.Gave.{Failed, Given, Decodes}
-use Rattle.stack_maps.specs.Read.{Got, Reader, done, go_on, then_read, if_some, u2, seen, locals_before, shape, at_offset, placed, map_frame, map_frames, whole, frames}
-use Rattle.stack_maps.proofs.Taken.{next, Took, took_nothing, took_both, took_as, same_got, chained, number_told, u2_back}
+use Rattle.stack_maps.specs.Gave.{Given, Decodes}
+use Rattle.stack_maps.specs.Read.{Got, done, go_on, then_read, if_some, u2, seen, locals_before, shape, at_offset, placed, map_frame, map_frames, whole, frames}
+use Rattle.stack_maps.proofs.Taken.{next, Took, took_nothing, took_both, same_got, chained, number_told, u2_back}
 use Rattle.stack_maps.proofs.TypesLaw.{some_told}
-use Rattle.stack_maps.proofs.FormsTold.{FormTook, form_told}
+use Rattle.stack_maps.proofs.FormsTold.{form_told}
 use Rattle.stack_maps.proofs.FormsBack.{form_back}
 
 abbrev unseen : ℕ × Frame → MapFrame

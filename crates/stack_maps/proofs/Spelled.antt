@@ -1,5 +1,5 @@
 -- What is spelled is the frames, over each pool that has the classes.
-use Rattle.std.proofs.Common.{◌≡◌, ℕ, zero, suc, ◌+◌, ◌-◌, ◌<◌, ◌≤◌, ◌^◌, Bool, true, false, ◌||◌, if◌then◌else◌, List, [], ◌∷◌, ◌++◌, length, map, Option, None, Some, refl, sym, ap, ◌∙◌, subst, arith}
+use Rattle.std.proofs.Common.{◌≡◌, ℕ, suc, ◌<◌, ◌^◌, Bool, true, false, ◌||◌, if◌then◌else◌, List, [], ◌∷◌, ◌++◌, length, map, Option, None, Some, refl, sym, ap, ◌∙◌, subst, arith}
 use Rattle.std.proofs.lemmas.Slice.Eq.{bytes_eq-Decides}
 use Rattle.std.specs.List.{flat_map, list_any, AllByRecursion}
 use Rattle.std.specs.Option.{option_map}
@@ -11,7 +11,7 @@ use Rattle.jvm_code.specs.declared.types.VType.TheVariants as v
 use Rattle.jvm_code.specs.Spelling.{u2}
 use Rattle.jvm_code.specs.StackMaps as maps
 use Rattle.stack_maps.specs.declared.frame.MapFrame.{MapFrame}
-use Rattle.stack_maps.specs.Full.{Classes, index_of, IsListed, Fits, IsBehind, FitEach, Holds, info_of, infos_of, delta_behind, full_form, full_forms, IsWithin}
+use Rattle.stack_maps.specs.Full.{Classes, index_of, IsListed, IsBehind, FitEach, Holds, info_of, infos_of, delta_behind, full_forms, IsWithin}
 use Rattle.stack_maps.specs.Read.{seen}
 use Rattle.stack_maps.proofs.FramesLaw.{one_list}
 

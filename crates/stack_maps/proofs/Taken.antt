@@ -1,5 +1,5 @@
 -- What is read tells the bytes that were read, and is read from them.
-use Rattle.std.proofs.Common.{◌≡◌, ℕ, zero, suc, ◌+◌, ◌<◌, ◌≤◌, ◌^◌, nat_le, Bool, true, false, if◌then◌else◌, List, [], ◌∷◌, ◌++◌, length, take, drop, Option, None, Some, refl, sym, ap, ◌∙◌, subst, append_assoc, arith, Ok, Err}
+use Rattle.std.proofs.Common.{◌≡◌, ℕ, suc, ◌+◌, ◌<◌, ◌≤◌, ◌^◌, nat_le, Bool, true, false, if◌then◌else◌, List, [], ◌++◌, length, drop, None, Some, refl, sym, ap, ◌∙◌, subst, append_assoc, arith, Ok, Err}
 use Rattle.std.proofs.lemmas.Bool.Decides.{nat_tests}
 use Rattle.byteorder.specs.Endian.{big_number, big_bytes}
 use Rattle.byteorder.specs.Numbers.{big_number-reads_back}
@@ -7,7 +7,7 @@ use Rattle.ej_tables.specs.Bytes.{AreBytes}
 use Rattle.jvm_code.specs.Fault.{NotClass}
 use Rattle.jvm_code.specs.Reader as reader
 use Rattle.jvm_code.proofs.Told as told
-use Rattle.stack_maps.specs.Read.{Got, Reader, done, go_on, then_read, number, if_some}
+use Rattle.stack_maps.specs.Read.{Got, Reader, go_on, number}
 
 -- one more of so many
 pub next : (k n : ℕ) → k ≡ n → suc k ≡ suc n

@@ -1,5 +1,5 @@
 -- Types that are read are those that are spelled.
-use Rattle.std.proofs.Common.{◌≡◌, ℕ, zero, suc, ◌+◌, ◌<◌, ◌≤◌, ◌^◌, nat_eq, Bool, true, false, if◌then◌else◌, List, [], ◌∷◌, ◌++◌, length, Option, None, Some, refl, sym, ap, ◌∙◌, subst, append_assoc, append-nil, arith}
+use Rattle.std.proofs.Common.{◌≡◌, ℕ, zero, suc, ◌<◌, ◌^◌, nat_eq, true, List, [], ◌∷◌, ◌++◌, length, Option, None, Some, refl, sym, ap, ◌∙◌, subst, append_assoc, arith}
 use Rattle.std.proofs.lemmas.Bool.{eqb-true}
 use Rattle.std.specs.List.{AllByRecursion}
 use Rattle.std.specs.Option.{option_map, option_and_then}
@@ -9,8 +9,8 @@ use Rattle.jvm_code.specs.declared.class.Constant.{Constant}
 use Rattle.jvm_code.specs.declared.types.VType.{VType}
 use Rattle.jvm_code.specs.declared.types.VType.TheVariants as v
 use Rattle.jvm_code.specs.Entries.{class_at}
-use Rattle.jvm_code.specs.StackMaps.{TypeInfo, Top, Integer, Long, Null, Object, info_bytes, infos_bytes, IsInfo, IsType, AreTypes, NamesClass, text_bytes}
-use Rattle.stack_maps.specs.Read.{Got, Reader, done, bad, go_on, then_read, if_some, number, u1, u2, times, class_type, object, tagged, vtype, vtypes, counted}
+use Rattle.jvm_code.specs.StackMaps.{TypeInfo, Top, Integer, Long, Null, Object, info_bytes, infos_bytes, IsInfo, IsType, AreTypes, NamesClass}
+use Rattle.stack_maps.specs.Read.{Got, done, go_on, then_read, if_some, u1, u2, times, class_type, object, tagged, vtype, vtypes, counted}
 use Rattle.stack_maps.specs.Texts.{text_of}
 use Rattle.stack_maps.proofs.Taken.{next, Took, took_nothing, took_both, took_as, same_got, chained, chosen, number_told, u1_back, u2_back}
 use Rattle.stack_maps.proofs.Utf16Law.{text_told, text_back}

@@ -1,4 +1,4 @@
-use Rattle.std.proofs.Common.{◌≡◌, ◌++◌, drop, None, Option, Bor}
+use Rattle.std.proofs.Common.{◌≡◌, ◌++◌, drop, None, Bor}
 use Rattle.std.specs.List.{flat_map, AllByRecursion}
 use Rattle.std.specs.Option.{option_map}
 use Rattle.jvm_code.specs.StackMaps.{IsForm, form_bytes}
