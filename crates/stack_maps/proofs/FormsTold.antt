@@ -133,7 +133,7 @@ module _ (pool : List Constant) (before : Frame) (bs : List ℕ) (p : ℕ × Fra
         after = (subst (AreTypes pool a.infos) (ap (λ p. p.1.locals) g.0) a.are, subst (AreTypes pool b.infos) (ap (λ p. p.1.stack) g.0) b.are);
         took = took_as bs ((big_bytes 1 255 ++ big_bytes 2 delta) ++ ((big_bytes 2 (length a.infos) ++ infos_bytes a.infos) ++ (big_bytes 2 (length b.infos) ++ infos_bytes b.infos))) (form_bytes (Full delta a.infos b.infos)) rest
             (full_spelled delta a.infos b.infos)
-            (took_both bs (big_bytes 1 255 ++ big_bytes 2 delta) left _ rest t (took_both left (big_bytes 2 (length a.infos) ++ infos_bytes a.infos) h.rest (big_bytes 2 (length b.infos) ++ infos_bytes b.infos) rest a.took (subst (λ r. Took h.rest (big_bytes 2 (length b.infos) ++ infos_bytes b.infos) r) g.1 b.took)));
+            (took_both bs (big_bytes 1 255 ++ big_bytes 2 delta) left ((big_bytes 2 (length a.infos) ++ infos_bytes a.infos) ++ (big_bytes 2 (length b.infos) ++ infos_bytes b.infos)) rest t (took_both left (big_bytes 2 (length a.infos) ++ infos_bytes a.infos) h.rest (big_bytes 2 (length b.infos) ++ infos_bytes b.infos) rest a.took (subst (λ r. Took h.rest (big_bytes 2 (length b.infos) ++ infos_bytes b.infos) r) g.1 b.took)));
       }
 
   tagged : (tag known delta : ℕ) (left : List ℕ) → nat_eq tag known ≡ true → Took bs (big_bytes 1 tag ++ big_bytes 2 delta) left → Took bs (big_bytes 1 known ++ big_bytes 2 delta) left
