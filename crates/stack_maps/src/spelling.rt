@@ -138,8 +138,8 @@ fn push_frames(
 }
 
 /// Bytes that have these frames over each pool in which each index of `classes` is that of a Class of the name beside it:
-/// each frame as a `full_frame`. Each class that a frame names is in `classes`, offsets rise, and there are at most 65,535
-/// frames, and locals and operands of each. The error says that memory was wanting.
+/// each frame as a `full_frame`. Each class that a frame names is in `classes`, offsets rise, there are at most 65,535
+/// frames, and each has at most 65,535 locals and 65,535 operands. The error says that memory was wanting.
 pub fn encode(
     alloc: Global,
     frames: &[MapFrame],
