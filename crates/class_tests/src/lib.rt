@@ -6,6 +6,8 @@
 #[cfg(test)]
 mod class_files;
 #[cfg(test)]
+mod maps;
+#[cfg(test)]
 mod pools;
 #[cfg(test)]
 mod rows;

@@ -20,5 +20,6 @@ pub mod RuntimeRows
 pub mod Same
 pub mod SameLaws
 pub mod Spelling
+pub mod StackMaps
 pub mod Types
 pub mod Units

@@ -1,0 +1,11 @@
+pub mod FormsBack
+pub mod FormsTold
+pub mod FramesLaw
+pub mod FramesRead
+pub mod Spelled
+pub mod Taken
+pub mod TextsFound
+pub mod TextsLaw
+pub mod TimesRead
+pub mod TypesLaw
+pub mod Utf16Law

@@ -1,0 +1,4 @@
+pub mod Full
+pub mod Gave
+pub mod Read
+pub mod Texts
