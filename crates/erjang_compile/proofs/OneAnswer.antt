@@ -1,19 +1,19 @@
 -- Bytes are the source of one module at most, or have one first fault.
-use Rattle.std.proofs.Common.{◌≡◌, ◌<◌, ◌≤◌, ℕ, Bool, true, false, List, length, Option, None, Some, refl, sym, ap, ap₂, subst, ◌∙◌, inl, inr, arith}
+use Rattle.std.proofs.Common.{◌≡◌, ◌<◌, ℕ, Bool, true, false, List, Option, None, Some, sym, ap, ap₂, subst, ◌∙◌, inl, inr, arith}
 use Rattle.std.specs.Prelude.{◌⊎◌}
-use Rattle.std.specs.List.{All, AllWithin}
+use Rattle.std.specs.List.{All}
 use Rattle.beam_code.specs.declared.module.Module.{Module}
 use Rattle.beam_code.specs.Code.{ModuleCode, module_code, function_at, no_function}
 use Rattle.erjang_compile.specs.declared.fault.Large.{Large}
 use Rattle.erjang_compile.specs.declared.fault.Large.TheVariants as large
 use Rattle.erjang_compile.specs.declared.fault.SourceFault.{SourceFault}
 use Rattle.erjang_compile.specs.declared.fault.SourceFault.TheVariants as fault
-use Rattle.erjang_compile.specs.Accepted.{KeepsRules, Read, WellSlotted, Weighs, FunctionFits, PoolFits, Fits, Literal, first_long, most_of_function, most_of_pool}
+use Rattle.erjang_compile.specs.Accepted.{KeepsRules, Read, WellSlotted, Weighs, FunctionFits, PoolFits, Fits, Literal}
 use Rattle.erjang_compile.specs.Faults.{FirstUnslotted, HasUnslotted, FirstHeavy, HeavyPool, FirstLong, IsTooLarge, HasLarge, Passes, HasFault}
 use Rattle.erjang_compile.specs.Laws.{OneAnswer}
 use Rattle.erjang_compile.proofs.OneCount.{one_pool_weight}
 use Rattle.erjang_compile.proofs.OneWeight.{one_weight}
-use Rattle.erjang_compile.proofs.OneSource.{HasModule, of_rules, of_break, same_module, same_text_fault, no_forms, form_first, same_form_fault, no_module, label_first, same_label_fault, no_break}
+use Rattle.erjang_compile.proofs.OneSource.{of_rules, of_break, same_module, same_text_fault, no_forms, form_first, same_form_fault, no_module, label_first, same_label_fault, no_break}
 
 compared : (m n : ℕ) → (m < n) ⊎ ((m ≡ n) ⊎ (n < m))
 compared m n = grind arith

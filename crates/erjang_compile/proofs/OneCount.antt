@@ -1,5 +1,5 @@
 -- A list has one number of different elements, and so the constants of a module have one weight.
-use Rattle.std.proofs.Common.{◌≡◌, ◌<◌, ◌≤◌, ℕ, suc, ◌+◌, ◌*◌, List, [], ◌∷◌, length, refl, sym, ap, subst, ◌∙◌, inl, inr, arith}
+use Rattle.std.proofs.Common.{◌≡◌, ◌≤◌, ℕ, suc, ◌+◌, ◌*◌, List, [], ◌∷◌, length, refl, sym, ap, subst, ◌∙◌, inl, inr, arith}
 use Rattle.beam_code.specs.Code.{ModuleCode}
 use Rattle.beam_code.specs.Pool.{IsAmong, AllDiffer, HasDifferent, PoolWeight}
 use Rattle.beam_code.specs.Weights.{saturated}

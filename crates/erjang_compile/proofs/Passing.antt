@@ -9,9 +9,9 @@ use Rattle.beam_code.specs.Code.{module_code}
 use Rattle.erjang_compile.specs.declared.fault.Large.{Large}
 use Rattle.erjang_compile.specs.declared.fault.SourceFault.{SourceFault}
 use Rattle.erjang_compile.specs.declared.fault.SourceFault.TheVariants as fault
-use Rattle.erjang_compile.specs.Accepted.{AreMaps, Fits, KeepsRules, Read}
+use Rattle.erjang_compile.specs.Accepted.{AreMaps, KeepsRules, Read}
 use Rattle.erjang_compile.specs.Answers.{Answers, IsFirst, IsUnslotted, TellsLarge}
-use Rattle.erjang_compile.specs.Faults.{HasLarge, IsTooLarge, Passes, Refuses}
+use Rattle.erjang_compile.specs.Faults.{Passes, Refuses}
 use Rattle.erjang_compile.proofs.Mapped.{all-slotted}
 
 -- a fault that is passed on

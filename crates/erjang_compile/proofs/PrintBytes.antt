@@ -1,5 +1,5 @@
 -- The print of a term is as long in characters as in bytes.
-use Rattle.std.proofs.Common.{◌≡◌, List, ℕ, length, encode_utf8_all, Option, None, Some, true, false, refl, sym, ap, ◌∙◌}
+use Rattle.std.proofs.Common.{◌≡◌, List, ℕ, length, Option, None, Some, true, false, refl, sym, ap, ◌∙◌}
 use Rattle.std.specs.Prelude.{option_map, is_some, not}
 use Rattle.std.proofs.lemmas.Str.{encodes-IsAscii}
 use Rattle.ej_term.specs.declared.asm_term.AsmTerm.{AsmTerm}

@@ -1,5 +1,5 @@
 -- Which bytes are the source of a module, and which modules fit into a class file.
-use Rattle.std.specs.Prelude.{◌≡◌, ℕ, suc, ◌≤◌, nat_lt, Bool, List, [], ◌∷◌, ◌++◌, map, length, encode_utf8_all, Option, None, Some, option_map}
+use Rattle.std.specs.Prelude.{◌≡◌, ℕ, suc, ◌≤◌, nat_lt, Bool, List, [], ◌∷◌, ◌++◌, map, length, encode_utf8_all, Option, None, option_map}
 use Rattle.std.specs.List.{All, AllZip, filter_map, find}
 use Rattle.ej_term.specs.declared.asm_term.AsmTerm.{AsmTerm}
 use Rattle.ej_term.specs.AsmValue.{value}

@@ -1,5 +1,5 @@
 -- What the functions owe one another.
-use Rattle.std.specs.Prelude.{◌≡◌, ℕ, nat_lt, Bool, List, Result, Ok, Err, Option, MatchOption}
+use Rattle.std.specs.Prelude.{ℕ, nat_lt, Bool, List, Result, Ok, Err, Option, MatchOption}
 use Rattle.std.specs.List.{filter_map, find}
 use Rattle.beam_code.specs.declared.operand.Src.{Src}
 use Rattle.beam_code.specs.Code.{ModuleCode}

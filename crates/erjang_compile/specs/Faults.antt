@@ -1,5 +1,5 @@
 -- What is wrong first with bytes that are not accepted.
-use Rattle.std.specs.Prelude.{◌≡◌, ℕ, ◌<◌, Bool, true, false, List, length, Option, Some, IsSomeAnd}
+use Rattle.std.specs.Prelude.{◌≡◌, ℕ, ◌<◌, Bool, true, false, List, length, Some, IsSomeAnd}
 use Rattle.std.specs.List.{All, AllWithin}
 use Rattle.ej_term.specs.declared.asm_term.AsmTerm.{AsmTerm}
 use Rattle.asm_terms.specs.declared.fault.TextFault.{TextFault}

@@ -1,6 +1,5 @@
 -- What reading a source tells of its bytes.
 use Rattle.std.proofs.Common.{◌≡◌, ℕ, suc, ◌<◌, true, nat_lt, slice_index, List, [], ◌∷◌, Result, Ok, Err, refl, sym, subst}
-use Rattle.std.specs.List.{list_all}
 use Rattle.std.specs.Result.{IsErrAnd}
 use Rattle.std.proofs.lemmas.Bool.{and_from, lt-ltb}
 use Rattle.beam_code.specs.declared.module.Module.{Module}
