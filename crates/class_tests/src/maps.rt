@@ -98,12 +98,12 @@ const SMALL: &str = "0007057f01f70004070002fa0000fb0000fe0000000405ff00000002050
 fn pool(alloc: Global) -> Result<Items<Constant>, Fail> {
     let mut pool = Items::new(alloc);
     pool.push(Constant::Gap)?;
-    let mut index = 1;
+    let mut index: u16 = 1;
     for name in NAMES.split(' ') {
         let bytes = bytes_of(alloc, name)?;
         pool.push(Constant::Utf8(Items::from_slice(alloc, bytes.as_slice())?))?;
         pool.push(Constant::Class(index))?;
-        index += 2;
+        index = index.wrapping_add(2);
     }
     pool.push(Constant::Class(0))?;
     Ok(pool)
