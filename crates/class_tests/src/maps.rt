@@ -4,7 +4,7 @@
 ghost use Rattle.std.specs.Prelude.{◌<◌, ◌^◌, length, [], None, IfOk};
 ghost use Rattle.stack_maps.specs.Full.{FitEach};
 
-use crate::rows::{bytes_of, word};
+use crate::rows::bytes_of;
 use ej_term::Text;
 use jvm_code::{Constant, Frame, VType};
 use sqlite_items::Items;
@@ -147,10 +147,10 @@ fn reads_frames(rt: HostRuntime) -> Result<(), Fail> {
     let alloc = rt.alloc();
     let pool = pool(alloc)?;
     for row in FRAMES.lines() {
-        let digits = word(&mut row.split(' '));
+        let (digits, expected) = row.split_once(' ').unwrap_or((row, ""));
         let frames = decode(alloc, bytes_of(alloc, digits)?.as_slice(), pool.as_slice())?;
         let shown = shown(alloc, frames.as_slice())?;
-        assert_eq!(rt; shown.as_str(), &row[digits.len()..]);
+        assert_eq!(rt; shown.as_str().trim_start(), expected);
     }
     Ok(())
 }
