@@ -6,11 +6,13 @@ pub mod Moves
 pub mod MovesOps
 pub mod SignedEq
 pub mod SmallNumbers
+pub mod TextEq
 pub mod Told
 pub mod ToldClass
 pub mod ToldMethods
 pub mod ToldOps
 pub mod ToldPool
+pub mod TypingWorked
 pub mod UnitsLaw
 pub mod Utf8Bytes
 pub mod Utf8Test

@@ -2,6 +2,7 @@ pub mod ConstantKey
 pub mod ConstantLaws
 pub mod Entries
 pub mod Fault
+pub mod Instruction
 pub mod MethodNames
 pub mod ModifiedUtf8
 pub mod ModifiedUtf8Due
@@ -19,7 +20,10 @@ pub mod Runtime
 pub mod RuntimeRows
 pub mod Same
 pub mod SameLaws
+pub mod Signature
 pub mod Spelling
 pub mod StackMaps
 pub mod Types
+pub mod Typing
 pub mod Units
+pub mod Verification

@@ -200,3 +200,7 @@ read_class bytes = ended (class_file 0 bytes)
 -- the bytes are those of the class
 abbrev pub ClassOf : List ℕ → Class → Type 0
 ClassOf bytes class = AreBytes bytes × (read_class bytes ≡ Ok class)
+
+-- the class is one of the profile: some bytes have it
+abbrev pub IsProfile : Class → Type 0
+IsProfile class = (bytes : List ℕ) × ClassOf bytes class

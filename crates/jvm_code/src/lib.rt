@@ -16,7 +16,7 @@ mod types;
 
 pub use class::{Class, Constant, Method, Op, Width};
 pub use laws::{bytes_and_classes, class_names, method_names, modified_utf8_spells_units};
-pub use methods::{RuntimeRow, runtime, runtime_row};
+pub use methods::{FieldType, RuntimeRow, runtime, runtime_row};
 pub use modified_utf8::is_modified_utf8;
 pub use names::{is_class_name, is_method_name, mangle};
 pub use opcodes::{OpcodeRow, Operands, mnemonic, opcode};

@@ -1,6 +1,7 @@
 //! The types of locals and operands (JVMS SE 7, 4.10.1.2).
 
-ghost use Rattle.std.specs.Prelude.{◌≡◌};
+ghost use Rattle.std.specs.Prelude.{◌≡◌, codes};
+ghost use Rattle.std.specs.Str.{bytes_eq};
 ghost use Rattle.jvm_code.specs.Types as spec;
 
 use ej_term::Text;
@@ -24,6 +25,13 @@ pub struct Frame {
     pub stack: Items<VType>,
 }
 
+/// Whether the class of that name is the one above all others.
+fn is_object(name: &Text) -> bool
+    ensures { result ≡ bytes_eq name.now (codes "java/lang/Object") }
+{
+    name.as_str() == "java/lang/Object"
+}
+
 /// Whether a value of type `a` may stand where one of type `b` is wanted: each type for itself and for Top, null for
 /// each class, each class for `java/lang/Object` (JVMS SE 7, 4.10.1.2, with no other subclasses).
 pub fn assignable(a: &VType, b: &VType) -> bool
@@ -35,9 +43,7 @@ pub fn assignable(a: &VType, b: &VType) -> bool
         (VType::Long, VType::Long) => true,
         (VType::Null, VType::Null) => true,
         (VType::Null, VType::Class(_)) => true,
-        (VType::Class(one), VType::Class(other)) => {
-            other.as_str() == "java/lang/Object" || one == other
-        }
+        (VType::Class(one), VType::Class(other)) => is_object(other) || one == other,
         _ => false,
     }
 }

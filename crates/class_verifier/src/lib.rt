@@ -1,0 +1,12 @@
+//! Whether a class keeps the type-checking rules (JVMS SE 7, 4.7.4 and 4.10.1, in the profile of `jvm_code`) and calls
+//! only methods that there are, and what is wrong first with one that does not.
+//!
+//! The rules are definitions of `jvm_code`: the frames of a method's `StackMapTable`, the types before and behind each
+//! instruction, and the order of faults.
+#![tactic(auto)]
+
+mod fault;
+mod verified;
+
+pub use fault::{Refused, VerifyFault};
+pub use verified::{Verified, verify};
