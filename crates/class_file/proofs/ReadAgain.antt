@@ -1,5 +1,5 @@
 -- Whether what is read again is the class's: methods one by one, and what stands around them.
-use Rattle.std.proofs.Common.{◌≡◌, ℕ, zero, suc, ◌+◌, ◌-◌, ◌<◌, Bool, true, false, not, nat_eq, ◌&&◌, List, [], ◌∷◌, ◌++◌, length, take, get_or, Result, Ok, Err, refl, sym, ap, ◌∙◌, subst, append_assoc, length-append, arith}
+use Rattle.std.proofs.Common.{◌≡◌, ℕ, zero, suc, ◌+◌, ◌-◌, ◌<◌, Bool, true, false, not, nat_eq, List, [], ◌∷◌, ◌++◌, length, take, get_or, Result, Ok, Err, refl, sym, ap, ◌∙◌, subst, append_assoc, arith}
 use Rattle.std.specs.Bool.{Decides}
 use Rattle.std.proofs.lemmas.Bool.{and_parts, and_from, true≢false}
 use Rattle.std.proofs.lemmas.Bool.Decides.{nat_tests}
@@ -11,14 +11,11 @@ use Rattle.jvm_code.specs.declared.class.Constant.{Constant}
 use Rattle.jvm_code.specs.declared.class.Method.{Method}
 use Rattle.jvm_code.specs.Fault.{Fault, NotClass as NotClassAt}
 use Rattle.jvm_code.specs.Reader.{Got, done, go_on, read_as, then_read}
-use Rattle.jvm_code.specs.ReadClass.{ClassOf, class_file, class_of, ended, method, methods, name_of, none, read_class}
+use Rattle.jvm_code.specs.ReadClass.{ClassOf, class_file, class_of, ended, method, methods, name_of, none}
 use Rattle.jvm_code.specs.Same.{same_class, same_method}
 use Rattle.jvm_code.specs.SameLaws.{class_tells, method_tells}
-use Rattle.class_file.specs.Again.{IsOther, Matches, Heads, behind, is_headed}
+use Rattle.class_file.specs.Again.{IsOther, Matches, behind, is_headed}
 use Rattle.class_file.specs.declared.again.Head.{Head}
-use Rattle.class_file.specs.declared.fault.ClassFault.{ClassFault}
-use Rattle.class_file.specs.declared.fault.ClassFault.TheVariants.{NotClass, OutsideProfile, NoMemory}
-use Rattle.class_file.specs.Gave.{Failed}
 use Rattle.class_file.specs.Place.{Place}
 use Rattle.class_file.proofs.EntriesRead.{onto}
 use Rattle.class_file.proofs.MethodsRead.{step_on, at_end}

@@ -2,7 +2,6 @@
 use Rattle.std.specs.Prelude.{◌≡◌, ℕ, Bool, true, false, nat_eq, ◌&&◌, List, [], Result, Ok, Err}
 use Rattle.std.specs.Cmp.Lexicographic.{pointwise}
 use Rattle.jvm_code.specs.declared.class.Class.{Class}
-use Rattle.jvm_code.specs.declared.class.Method.{Method}
 use Rattle.jvm_code.specs.ConstantKey.{same_constant}
 use Rattle.jvm_code.specs.ReadClass.{class_of, methods, none}
 use Rattle.jvm_code.specs.Reader.{Got, Reader, read_as, then_read}

@@ -17,7 +17,7 @@ use crate::instructions::code;
 use crate::source::Source;
 use crate::verdict::{Verdict, broken_unless, forbidden_unless, settle};
 use indexmap::IndexSet;
-use jvm_code::{Constant, Method, Op, is_method_name};
+use jvm_code::{Constant, Method, Op, is_method_name, utf8_at};
 use sqlite_items::Items;
 use std::alloc::{AllocError, Global};
 
@@ -28,16 +28,6 @@ struct CodeContent {
     max_locals: u16,
     code: Items<(u16, Op)>,
     maps: Option<(u16, Items<u8>)>,
-}
-
-/// The bytes of the text at that index. None where it is no text.
-pub(crate) fn utf8_at(pool: &[Constant], index: u16) -> Option<&[u8]>
-    ensures { option_map (λ text. text.now) result ≡ entries.utf8_at pool.now index }
-{
-    match pool.get(index as usize) {
-        Some(Constant::Utf8(bytes)) => Some(bytes.as_slice()),
-        _ => None,
-    }
 }
 
 /// Whether the text at that index is this one.

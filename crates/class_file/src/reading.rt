@@ -10,11 +10,11 @@ ghost use Rattle.jvm_code.specs.ReadClass as spec;
 ghost use Rattle.std.specs.Str.{bytes_eq};
 
 use crate::fault::ClassFault;
-use crate::methods::{methods, none, utf8_at};
+use crate::methods::{methods, none};
 use crate::pool::pool;
 use crate::source::Source;
 use crate::verdict::{Verdict, broken_unless, forbidden_unless, settle};
-use jvm_code::{Class, Constant, Method, is_class_name};
+use jvm_code::{Class, Constant, Method, class_at, is_class_name};
 use sqlite_items::Items;
 use std::alloc::{AllocError, Global};
 
@@ -51,16 +51,6 @@ pub(crate) fn flags(source: &mut Source<'_>) -> Result<u16, ClassFault>
     let flags = source.u2()?;
     settle(forbidden_unless(flags & 0x0031 == flags), at)?;
     Ok(flags)
-}
-
-/// The name of the class at that index. None where it is no class.
-fn class_at(pool: &[Constant], index: u16) -> Option<&[u8]>
-    ensures { option_map (λ text. text.now) result ≡ entries.class_at pool.now index }
-{
-    match pool.get(index as usize) {
-        Some(Constant::Class(name)) => utf8_at(pool, *name),
-        _ => None,
-    }
 }
 
 fn this_verdict(alloc: Global, pool: &[Constant], index: u16) -> Result<Verdict, AllocError>

@@ -6,6 +6,7 @@
 
 mod class;
 mod constant;
+mod entries;
 mod equality;
 mod laws;
 mod methods;
@@ -15,6 +16,7 @@ mod opcodes;
 mod types;
 
 pub use class::{Class, Constant, Method, Op, Width};
+pub use entries::{class_at, name_and_type_at, utf8_at};
 pub use laws::{bytes_and_classes, class_names, method_names, modified_utf8_spells_units};
 pub use methods::{FieldType, RuntimeRow, runtime, runtime_row};
 pub use modified_utf8::is_modified_utf8;

@@ -9,29 +9,9 @@ ghost use Rattle.stack_maps.specs.Read as spec;
 use crate::fault::MapFault;
 use crate::source::Source;
 use crate::texts::text_of;
-use jvm_code::{Constant, VType};
+use jvm_code::{Constant, VType, class_at};
 use sqlite_items::Items;
 use std::alloc::{AllocError, Global};
-
-/// The bytes of the text at that index. None where it is no text.
-fn utf8_at(pool: &[Constant], index: u16) -> Option<&[u8]>
-    ensures { option_map (λ text. text.now) result ≡ entries.utf8_at pool.now index }
-{
-    match pool.get(index as usize) {
-        Some(Constant::Utf8(bytes)) => Some(bytes.as_slice()),
-        _ => None,
-    }
-}
-
-/// The name of the class at that index. None where it is no class.
-fn class_at(pool: &[Constant], index: u16) -> Option<&[u8]>
-    ensures { option_map (λ text. text.now) result ≡ entries.class_at pool.now index }
-{
-    match pool.get(index as usize) {
-        Some(Constant::Class(name)) => utf8_at(pool, *name),
-        _ => None,
-    }
-}
 
 /// The type of the class at that index.
 fn class_type(alloc: Global, pool: &[Constant], index: u16) -> Result<VType, MapFault>
