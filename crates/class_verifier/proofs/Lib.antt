@@ -1,1 +1,3 @@
-
+pub mod ClassNames
+pub mod LinksFound
+pub mod NameSets

@@ -1,2 +1,3 @@
+pub mod Links
 pub mod Messages
 pub mod Verdict

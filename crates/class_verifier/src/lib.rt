@@ -6,6 +6,7 @@
 #![tactic(auto)]
 
 mod fault;
+mod links;
 mod verified;
 
 pub use fault::{Refused, VerifyFault};
