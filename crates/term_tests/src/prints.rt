@@ -32,7 +32,7 @@ yes 'it\'s'
 yes '\\'
 yes '"'
 no '\"'
-yes '\x{DF}\x{D7}\x{F7}\x{100}'
+yes '\x{DF}\x{CF}\x{F7}\x{100}'
 no ß
 no 'ß'
 yes '\x{0}\x{E9}\x{A}\x{7F}\x{10FFFF}'
