@@ -1,6 +1,7 @@
 pub mod BytesWritten
 pub mod ClassRead
 pub mod EntriesRead
+pub mod GivenClass
 pub mod HighValue
 pub mod LowBytes
 pub mod MethodsRead

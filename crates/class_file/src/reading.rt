@@ -167,7 +167,8 @@ fn whole(alloc: Global, source: &mut Source<'_>) -> Result<Class, ClassFault>
 /// The class of the bytes. Else the first field that fails, in the order of the bytes: where the bytes end or the format is
 /// broken they are no class, and where the profile forbids what stands there they are outside it.
 pub fn parse(alloc: Global, bytes: &[u8]) -> Result<Class, ClassFault>
-    ensures { Given (λ c. c) (spec.read_class bytes.now) result }
+    ensures read { Given (λ c. c) (spec.read_class bytes.now) result }
+    ensures of { IfOk result (λ class. spec.ClassOf bytes.now class) }
 {
     let mut source = Source::new(bytes);
     whole(alloc, &mut source)
