@@ -1,1 +1,4 @@
-
+mod Left
+pub mod Placed
+pub mod Room
+pub mod Starts

@@ -6,6 +6,7 @@
 #![tactic(auto)]
 
 mod fault;
+mod frames;
 mod verified;
 
 pub use fault::{Refused, VerifyFault};
