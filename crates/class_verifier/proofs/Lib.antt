@@ -1,4 +1,5 @@
 mod Left
+pub mod Found
 pub mod Placed
 pub mod Room
 pub mod Starts

@@ -7,6 +7,7 @@
 
 mod fault;
 mod frames;
+mod table;
 mod verified;
 
 pub use fault::{Refused, VerifyFault};

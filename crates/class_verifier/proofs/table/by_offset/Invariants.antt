@@ -1,0 +1,8 @@
+use Rattle.std.proofs.Common.{nat_eq, drop}
+use Rattle.std.specs.Option.{option_map}
+use Rattle.indexmap.specs.IndexMap.{get}
+use Rattle.class_verifier.proofs.Found.{Kept}
+use Rattle.class_verifier.proofs.table.by_offset.Given as goal
+
+abbrev pub invariant-loop-frame : goal.invariant-loop-frame
+invariant-loop-frame l = Kept (λ n. option_map (λ f. f.now) (get nat_eq l.table n)) (drop l.frame-index l.frames) l.frames
