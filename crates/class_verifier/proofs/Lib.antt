@@ -5,5 +5,4 @@ pub mod OpParts
 pub mod Placed
 pub mod Places
 pub mod Room
-pub mod Rooms
 pub mod Starts

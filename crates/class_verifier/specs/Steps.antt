@@ -18,10 +18,6 @@ abbrev pub linked_by : Op → Option (Bor Signature) → Bool
 linked_by (o.Invoke index) signature = is_some signature
 linked_by _ signature = true
 
--- a state has the locals of the method
-abbrev pub HasCount : Scope → State → Type 0
-HasCount scope s = length s.locals ≡ scope.method.now.max_locals
-
 -- the state with which an instruction begins
 abbrev pub before : Scope → Bool → ℕ → State → Option State
 before scope comes pc s = at_frame (come comes s) (listed scope.method.now scope.frames.now pc)

@@ -1,7 +1,5 @@
 //! What is known where a method's code is gone through.
 
-ghost use Rattle.std.specs.Prelude.{◌≡◌, true};
-ghost use Rattle.jvm_code.specs.Verification.{are_placed};
 ghost use Rattle.class_verifier.specs.Calls.{IsString};
 ghost use Rattle.class_verifier.specs.Links.{Are};
 
@@ -19,7 +17,6 @@ pub(crate) struct Scope<'a> {
     pub(crate) links: &'a Links,
     /// The name of the class of strings.
     pub(crate) string: &'a Text,
-    ghost placed: { are_placed method.now frames.now ≡ true },
     ghost linked: { Are class.now links.now.signatures.items },
     ghost named: { IsString string.now },
 }

@@ -6,7 +6,6 @@ ghost use Rattle.jvm_code.specs.Instruction.{target};
 ghost use Rattle.jvm_code.specs.Verification.{reaches as reaches_target};
 ghost use Rattle.class_verifier.specs.OpParts as spec;
 ghost use Rattle.class_verifier.specs.Seen.{state_seen};
-ghost use Rattle.class_verifier.specs.Steps.{HasCount};
 
 use crate::scope::Scope;
 use crate::state::State;
@@ -24,7 +23,6 @@ pub(crate) fn goes_on(op: &Op) -> bool
 
 /// Whether a frame stands at each target of an instruction at that offset, which the state behind it fits.
 pub(crate) fn reaches_each(scope: &Scope<'_>, state: &State<'_>, pc: u16, op: &Op) -> bool
-    requires { HasCount scope.now (state_seen state.now) }
     ensures { result ≡ list_all (reaches_target scope.now.method.now scope.now.frames.now (state_seen state.now)) (map (target pc) (spec.offsets op.now)) }
 {
     match op {
@@ -44,7 +42,6 @@ pub(crate) fn reaches_each(scope: &Scope<'_>, state: &State<'_>, pc: u16, op: &O
 }
 
 fn reaches_offsets(scope: &Scope<'_>, state: &State<'_>, pc: u16, offsets: &[i32]) -> bool
-    requires { HasCount scope.now (state_seen state.now) }
     ensures { result ≡ list_all (reaches_target scope.now.method.now scope.now.frames.now (state_seen state.now)) (map (target pc) offsets.now) }
 {
     for offset in offsets {
@@ -56,7 +53,6 @@ fn reaches_offsets(scope: &Scope<'_>, state: &State<'_>, pc: u16, offsets: &[i32
 }
 
 fn reaches_pairs(scope: &Scope<'_>, state: &State<'_>, pc: u16, pairs: &[(i32, i32)]) -> bool
-    requires { HasCount scope.now (state_seen state.now) }
     ensures { result ≡ list_all (reaches_target scope.now.method.now scope.now.frames.now (state_seen state.now)) (map (target pc) (map (λ (p : ℤ × ℤ). p.1) pairs.now)) }
 {
     for (_, offset) in pairs {
@@ -68,9 +64,7 @@ fn reaches_pairs(scope: &Scope<'_>, state: &State<'_>, pc: u16, pairs: &[(i32, i
 }
 
 // Whether a frame stands at that offset from an instruction, which the state fits.
-#[tactic(auto, using(crate::proofs::Rooms::locals_room))]
 fn reaches(scope: &Scope<'_>, state: &State<'_>, pc: u16, offset: i32) -> bool
-    requires { HasCount scope.now (state_seen state.now) }
     ensures { result ≡ reaches_target scope.now.method.now scope.now.frames.now (state_seen state.now) (target pc offset) }
 {
     match scope.frames.at(i64::from(pc) + i64::from(offset)) {

@@ -8,7 +8,7 @@ ghost use Rattle.jvm_code.specs.Verification as spec;
 ghost use Rattle.class_verifier.specs.Calls.{IsCalled};
 ghost use Rattle.class_verifier.specs.Links.{Are};
 ghost use Rattle.class_verifier.specs.Seen.{state_seen};
-ghost use Rattle.class_verifier.specs.Steps.{HasCount, Stepped, before, behind, linked_by};
+ghost use Rattle.class_verifier.specs.Steps.{Stepped, before, behind, linked_by};
 ghost use Rattle.class_verifier.specs.Told.{Tells};
 
 use crate::code_fault::CodeFault;
@@ -22,7 +22,6 @@ use std::alloc::AllocError;
 /// Goes through the method's code from a state at its beginning: what is wrong first with it, if anything is. Afterwards
 /// the state is no longer of use.
 pub(crate) fn walk<'a>(scope: &Scope<'a>, state: &mut State<'a>) -> Result<(), CodeFault>
-    requires { HasCount scope.now (state_seen state.old) }
     ensures { Tells result (spec.fault_from scope.now.class.now scope.now.method.now scope.now.frames.now scope.now.method.now.code (Some (state_seen state.old))) }
 {
     let code = scope.method.code.as_slice();
@@ -45,9 +44,7 @@ fn step<'a>(
     op: &Op,
     is_last: bool,
 ) -> Result<(), CodeFault>
-    requires { HasCount scope.now (state_seen state.old) }
-    ensures told { Stepped scope.now pc op.now (behind scope.now is_last pc op.now (before scope.now comes pc (state_seen state.old))) result (state_seen state.new) }
-    ensures count { IfOk result (λ _. HasCount scope.now (state_seen state.new)) }
+    ensures { Stepped scope.now pc op.now (behind scope.now is_last pc op.now (before scope.now comes pc (state_seen state.old))) result (state_seen state.new) }
 {
     let signature = called(scope.links, op);
     if !is_linked(op, signature) {
@@ -89,10 +86,8 @@ fn type_step<'a>(
     signature: Option<&'a Signature>,
     is_last: bool,
 ) -> Result<bool, AllocError>
-    requires count { HasCount scope.now (state_seen state.old) }
-    requires called { IsCalled scope.now.class.now op.now signature }
-    ensures typed { IfOk result (λ ok. behind scope.now is_last pc op.now (before scope.now comes pc (state_seen state.old)) ≡ (if ok then Some (state_seen state.new) else None)) }
-    ensures count { IfOk result (λ ok. ok ≡ true → HasCount scope.now (state_seen state.new)) }
+    requires { IsCalled scope.now.class.now op.now signature }
+    ensures { IfOk result (λ ok. behind scope.now is_last pc op.now (before scope.now comes pc (state_seen state.old)) ≡ (if ok then Some (state_seen state.new) else None)) }
 {
     if !come_to(scope, state, comes, pc)? {
         return Ok(false);
@@ -104,16 +99,13 @@ fn type_step<'a>(
 }
 
 // Enters the frame at the offset, if there is one. Tells whether an instruction may begin there.
-#[tactic(auto, using(crate::proofs::Rooms::locals_room))]
 fn come_to<'a>(
     scope: &Scope<'a>,
     state: &mut State<'a>,
     comes: bool,
     pc: u16,
 ) -> Result<bool, AllocError>
-    requires { HasCount scope.now (state_seen state.old) }
-    ensures entered { IfOk result (λ ok. before scope.now comes pc (state_seen state.old) ≡ (if ok then Some (state_seen state.new) else None)) }
-    ensures count { IfOk result (λ ok. ok ≡ true → HasCount scope.now (state_seen state.new)) }
+    ensures { IfOk result (λ ok. before scope.now comes pc (state_seen state.old) ≡ (if ok then Some (state_seen state.new) else None)) }
 {
     let Some(frame) = scope.frames.at(i64::from(pc)) else {
         return Ok(comes);
@@ -129,7 +121,6 @@ fn come_to<'a>(
 
 // Whether the stack is not too deep behind an instruction, each target is reached, and control does not run off the end.
 fn is_sound(scope: &Scope<'_>, state: &State<'_>, pc: u16, op: &Op, is_last: bool) -> bool
-    requires { HasCount scope.now (state_seen state.now) }
     ensures { (i : Instruction ℤ) → resolve scope.now.class.now pc op.now ≡ Some i → result ≡ spec.is_sound scope.now.method.now scope.now.frames.now is_last i (state_seen state.now) }
 {
     state.depth() <= scope.method.max_stack as usize
