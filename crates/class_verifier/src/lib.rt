@@ -6,6 +6,11 @@
 #![tactic(auto)]
 
 mod fault;
+mod links;
+mod locals;
+mod operands;
+mod state;
+mod types;
 mod verified;
 
 pub use fault::{Refused, VerifyFault};
