@@ -1,1 +1,2 @@
-
+pub mod LocalsLaw
+pub mod Places

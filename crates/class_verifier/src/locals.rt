@@ -11,7 +11,7 @@ use std::alloc::AllocError;
 pub(crate) fn fill(locals: &mut Vec<TypeRef<'_>>, count: u16) -> Result<(), AllocError>
     ensures { IfOk result (λ _. types_seen locals.new.items ≡ spec.filled count (types_seen locals.old.items)) }
 {
-    for _ in locals.len()..count as usize {
+    while locals.len() < count as usize {
         locals.push(TypeRef::Top)?;
     }
     Ok(())
