@@ -1,3 +1,5 @@
+pub mod Calls
+pub mod Links
 pub mod Messages
 pub mod Seen
 pub mod Verdict

@@ -1,10 +1,8 @@
--- What the verifier's own types stand for: verification types, states of them, and the signatures of what is called.
+-- What the verifier's own types stand for: verification types, and states of them.
 use Rattle.std.specs.Prelude.{Bool, List, map, reverse}
 use Rattle.jvm_code.specs.declared.types.VType.{VType}
 use Rattle.jvm_code.specs.declared.types.VType.TheVariants as v
-use Rattle.jvm_code.specs.Signature.{Signature}
 use Rattle.jvm_code.specs.Typing.{State, is_int, is_reference, is_single}
-use Rattle.class_verifier.specs.declared.links.Signature.{Signature as SignatureHeld}
 use Rattle.class_verifier.specs.declared.state.State.{State as StateRef}
 use Rattle.class_verifier.specs.declared.types.TypeRef.{TypeRef}
 use Rattle.class_verifier.specs.declared.types.TypeRef.TheVariants as t
@@ -34,6 +32,3 @@ test_of w.Single = is_single
 
 abbrev pub state_seen : StateRef → State
 state_seen s = record { locals = types_seen s.locals.items; stack = stack_seen s.stack.items }
-
-abbrev pub signature_seen : SignatureHeld → Signature
-signature_seen s = record { takes = s.takes; gives = s.gives }

@@ -5,6 +5,7 @@
 //! instruction, and the order of faults.
 #![tactic(auto)]
 
+mod after;
 mod fault;
 mod links;
 mod locals;
