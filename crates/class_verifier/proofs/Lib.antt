@@ -1,2 +1,3 @@
+pub mod AfterLaw
 pub mod LocalsLaw
 pub mod Places

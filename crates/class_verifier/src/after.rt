@@ -1,13 +1,13 @@
 //! What an instruction does to a state.
 
-ghost use Rattle.std.specs.Prelude.{◌≡◌, ℕ, ℤ, None, Some, IfOk, is_some, if◌then◌else◌, option_map, option_and_then, slice_get};
+ghost use Rattle.std.specs.Prelude.{◌≡◌, ℕ, ℤ, IfOk, is_some, option_map, option_and_then, slice_get};
 ghost use Rattle.jvm_code.specs.Entries.{utf8_at};
 ghost use Rattle.jvm_code.specs.Instruction.{loaded_at, loaded_wide as wide, resolve};
 ghost use Rattle.jvm_code.specs.Typing as spec;
 ghost use Rattle.jvm_code.specs.Typing.{State as StateSeen};
 ghost use Rattle.class_verifier.specs.Calls.{IsCalled, IsString};
 ghost use Rattle.class_verifier.specs.Links.{signature_seen};
-ghost use Rattle.class_verifier.specs.Seen.{type_seen, state_seen, test_of};
+ghost use Rattle.class_verifier.specs.Seen.{Becomes, type_seen, state_seen, test_of};
 
 use crate::links::Signature;
 use crate::locals::{store, type_at};
@@ -31,7 +31,7 @@ impl<'a> State<'a> {
     ) -> Result<bool, AllocError>
         requires string { IsString string.now }
         requires called { IsCalled class.now op.now signature }
-        ensures { IfOk result (λ ok. (pc : ℕ) → option_and_then (spec.after (state_seen self.old)) (resolve class.now pc op.now) ≡ (if ok then Some (state_seen self.new) else None)) }
+        ensures { IfOk result (λ ok. (pc : ℕ) → Becomes (option_and_then (spec.after (state_seen self.old)) (resolve class.now pc op.now)) ok self.new) }
     {
         match op {
             Op::Null => self.push(TypeRef::Null),
@@ -60,7 +60,7 @@ impl<'a> State<'a> {
 
     // Pushes a type.
     fn push(&mut self, given: TypeRef<'a>) -> Result<bool, AllocError>
-        ensures { IfOk result (λ ok. spec.pushed (state_seen self.old) (type_seen given.entry) ≡ (if ok then Some (state_seen self.new) else None)) }
+        ensures { IfOk result (λ ok. Becomes (spec.pushed (state_seen self.old) (type_seen given.entry)) ok self.new) }
     {
         push(&mut self.stack, given)?;
         Ok(true)
@@ -68,7 +68,7 @@ impl<'a> State<'a> {
 
     // Pushes a type that there may be.
     fn push_given(&mut self, given: Option<TypeRef<'a>>) -> Result<bool, AllocError>
-        ensures { IfOk result (λ ok. option_and_then (λ t. spec.pushed (state_seen self.old) (type_seen t)) given.entry ≡ (if ok then Some (state_seen self.new) else None)) }
+        ensures { IfOk result (λ ok. Becomes (option_and_then (λ t. spec.pushed (state_seen self.old) (type_seen t)) given.entry) ok self.new) }
     {
         match given {
             None => Ok(false),
@@ -77,7 +77,7 @@ impl<'a> State<'a> {
     }
 
     fn load(&mut self, local: u16, wanted: Wanted) -> Result<bool, AllocError>
-        ensures { IfOk result (λ ok. spec.loaded (state_seen self.old) (test_of wanted) (spec.type_at (state_seen self.old).locals local) ≡ (if ok then Some (state_seen self.new) else None)) }
+        ensures { IfOk result (λ ok. Becomes (spec.loaded (state_seen self.old) (test_of wanted) (spec.type_at (state_seen self.old).locals local)) ok self.new) }
     {
         let held = type_at(&self.locals, local as usize);
         if !held.is(wanted) {
@@ -87,7 +87,7 @@ impl<'a> State<'a> {
     }
 
     fn store(&mut self, local: u16, wanted: Wanted) -> bool
-        ensures { spec.moved (state_seen self.old) (test_of wanted) local (state_seen self.old).stack ≡ (if result then Some (state_seen self.new) else None) }
+        ensures { Becomes (spec.moved (state_seen self.old) (test_of wanted) local (state_seen self.old).stack) result self.new }
     {
         match pop(&mut self.stack) {
             None => false,
@@ -101,7 +101,7 @@ impl<'a> State<'a> {
     }
 
     fn dup(&mut self) -> Result<bool, AllocError>
-        ensures { IfOk result (λ ok. spec.left (state_seen self.old) (spec.doubled (state_seen self.old).stack) ≡ (if ok then Some (state_seen self.new) else None)) }
+        ensures { IfOk result (λ ok. Becomes (spec.left (state_seen self.old) (spec.doubled (state_seen self.old).stack)) ok self.new) }
     {
         let Some(top) = pop(&mut self.stack) else {
             return Ok(false);
@@ -115,7 +115,7 @@ impl<'a> State<'a> {
     }
 
     fn swap(&mut self) -> Result<bool, AllocError>
-        ensures { IfOk result (λ ok. spec.left (state_seen self.old) (spec.swapped (state_seen self.old).stack) ≡ (if ok then Some (state_seen self.new) else None)) }
+        ensures { IfOk result (λ ok. Becomes (spec.left (state_seen self.old) (spec.swapped (state_seen self.old).stack)) ok self.new) }
     {
         let Some(top) = pop(&mut self.stack) else {
             return Ok(false);
@@ -136,7 +136,7 @@ impl<'a> State<'a> {
 
     // Two integers become one.
     fn join(&mut self) -> Result<bool, AllocError>
-        ensures { IfOk result (λ ok. spec.left (state_seen self.old) (spec.joined (state_seen self.old).stack) ≡ (if ok then Some (state_seen self.new) else None)) }
+        ensures { IfOk result (λ ok. Becomes (spec.left (state_seen self.old) (spec.joined (state_seen self.old).stack)) ok self.new) }
     {
         if !pop_two(&mut self.stack, Wanted::Integer) {
             return Ok(false);
@@ -147,7 +147,7 @@ impl<'a> State<'a> {
 
     // What a call does that has that signature, if it calls what there is.
     fn call_found(&mut self, signature: Option<&'a Signature>) -> Result<bool, AllocError>
-        ensures { IfOk result (λ ok. spec.left (state_seen self.old) (option_and_then (λ s. spec.called s (state_seen self.old).stack) (option_map (λ s. signature_seen s.now) signature.entry)) ≡ (if ok then Some (state_seen self.new) else None)) }
+        ensures { IfOk result (λ ok. Becomes (spec.left (state_seen self.old) (option_and_then (λ s. spec.called s (state_seen self.old).stack) (option_map (λ s. signature_seen s.now) signature.entry))) ok self.new) }
     {
         match signature {
             None => Ok(false),
@@ -157,7 +157,7 @@ impl<'a> State<'a> {
 
     /// Becomes the state behind a call of that signature. Tells whether the state before allows it.
     pub(crate) fn after_call(&mut self, signature: &'a Signature) -> Result<bool, AllocError>
-        ensures { IfOk result (λ ok. spec.left (state_seen self.old) (spec.called (signature_seen signature.now) (state_seen self.old).stack) ≡ (if ok then Some (state_seen self.new) else None)) }
+        ensures { IfOk result (λ ok. Becomes (spec.left (state_seen self.old) (spec.called (signature_seen signature.now) (state_seen self.old).stack)) ok self.new) }
     {
         if !pop_values(&mut self.stack, signature.takes.as_slice()) {
             return Ok(false);
