@@ -1,3 +1,4 @@
 pub mod AfterLaw
+pub mod FitsLaw
 pub mod LocalsLaw
 pub mod Places

@@ -1,4 +1,5 @@
 pub mod Calls
+pub mod Fits
 pub mod Links
 pub mod Messages
 pub mod Seen

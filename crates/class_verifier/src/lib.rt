@@ -7,6 +7,7 @@
 
 mod after;
 mod fault;
+mod fits;
 mod links;
 mod locals;
 mod operands;
