@@ -1,4 +1,5 @@
 pub mod AfterLaw
 pub mod FitsLaw
+pub mod LocalsKept
 pub mod LocalsLaw
 pub mod Places

@@ -8,5 +8,5 @@ abbrev pub invariant-loop-one : goal.invariant-loop-one
 invariant-loop-one l = record {
   rest : (rest : List VType) → spec.all_assignable (types_seen l.types) (spec.places l.wanted ++ rest) ≡ spec.all_assignable (drop l.end (types_seen l.types)) (spec.places (drop l.one-index l.wanted) ++ rest);
   count : l.end + length (spec.places (drop l.one-index l.wanted)) ≡ length (spec.places l.wanted);
-  within : l.end ≤ length l.types
+  within : l.end ≤ length l.types;
 }
