@@ -1,8 +1,12 @@
-mod Left
+pub mod AfterLaw
+pub mod FitsLaw
 pub mod Found
+mod Left
+pub mod LocalsKept
 pub mod LocalsLaw
 pub mod OpParts
 pub mod Placed
 pub mod Places
 pub mod Room
 pub mod Starts
+pub mod Walking

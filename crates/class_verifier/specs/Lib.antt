@@ -1,4 +1,5 @@
 pub mod Calls
+pub mod Fits
 pub mod Framed
 pub mod Links
 pub mod Messages

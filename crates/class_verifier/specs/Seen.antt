@@ -1,5 +1,5 @@
 -- What the verifier's own types stand for: verification types, and states of them.
-use Rattle.std.specs.Prelude.{Bool, List, map, reverse}
+use Rattle.std.specs.Prelude.{◌≡◌, Bool, List, map, reverse, Option, None, Some, if◌then◌else◌}
 use Rattle.jvm_code.specs.declared.types.VType.{VType}
 use Rattle.jvm_code.specs.declared.types.VType.TheVariants as v
 use Rattle.jvm_code.specs.Typing.{State, is_int, is_reference, is_single}
@@ -24,6 +24,10 @@ types_seen types = map type_seen types
 abbrev pub stack_seen : List TypeRef → List VType
 stack_seen types = reverse (types_seen types)
 
+-- the stack is the one that is wanted, if it is told that there is one
+abbrev pub Leaves : Option (List VType) → Bool → List TypeRef → Type 0
+Leaves wanted told types = wanted ≡ (if told then Some (stack_seen types) else None)
+
 -- the test of a type that an instruction takes
 abbrev pub test_of : Wanted → VType → Bool
 test_of w.Integer = is_int
@@ -32,3 +36,7 @@ test_of w.Single = is_single
 
 abbrev pub state_seen : StateRef → State
 state_seen s = record { locals = types_seen s.locals.items; stack = stack_seen s.stack.items }
+
+-- the state is the one that is wanted, if it is told that there is one
+abbrev pub Becomes : Option State → Bool → StateRef → Type 0
+Becomes wanted told s = wanted ≡ (if told then Some (state_seen s) else None)

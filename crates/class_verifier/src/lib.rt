@@ -8,6 +8,7 @@
 mod after;
 mod code_fault;
 mod fault;
+mod fits;
 mod frames;
 mod links;
 mod locals;

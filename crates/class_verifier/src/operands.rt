@@ -1,8 +1,8 @@
 //! Types at places, and an operand stack of them, whose top is the end of the list.
 
-ghost use Rattle.std.specs.Prelude.{◌≡◌, ◌++◌, [], ◌∷◌, None, Some, MatchOption, IfOk, if◌then◌else◌, length, reverse};
+ghost use Rattle.std.specs.Prelude.{◌≡◌, ◌++◌, [], ◌∷◌, MatchOption, IfOk, reverse};
 ghost use Rattle.jvm_code.specs.Typing as spec;
-ghost use Rattle.class_verifier.specs.Seen.{type_seen, types_seen, stack_seen, test_of};
+ghost use Rattle.class_verifier.specs.Seen.{Leaves, type_seen, types_seen, stack_seen, test_of};
 
 use crate::types::{TypeRef, Wanted};
 use jvm_code::VType;
@@ -41,7 +41,7 @@ pub(crate) fn pop<'a>(stack: &mut Vec<TypeRef<'a>>) -> Option<TypeRef<'a>>
 
 /// Takes the type on top. Tells whether there is one that is what is asked for.
 pub(crate) fn pop_if(stack: &mut Vec<TypeRef<'_>>, wanted: Wanted) -> bool
-    ensures { spec.popped (test_of wanted) (stack_seen stack.old.items) ≡ (if result then Some (stack_seen stack.new.items) else None) }
+    ensures { Leaves (spec.popped (test_of wanted) (stack_seen stack.old.items)) result stack.new.items }
 {
     match pop(stack) {
         None => false,
@@ -51,7 +51,7 @@ pub(crate) fn pop_if(stack: &mut Vec<TypeRef<'_>>, wanted: Wanted) -> bool
 
 /// Takes two types. Tells whether there are such, and both are what is asked for.
 pub(crate) fn pop_two(stack: &mut Vec<TypeRef<'_>>, wanted: Wanted) -> bool
-    ensures { spec.popped_twice (test_of wanted) (stack_seen stack.old.items) ≡ (if result then Some (stack_seen stack.new.items) else None) }
+    ensures { Leaves (spec.popped_twice (test_of wanted) (stack_seen stack.old.items)) result stack.new.items }
 {
     if !pop_if(stack, wanted) {
         return false;
@@ -61,7 +61,7 @@ pub(crate) fn pop_two(stack: &mut Vec<TypeRef<'_>>, wanted: Wanted) -> bool
 
 /// Takes a value of a type, which is two places for a Long. Tells whether there is one that may stand for it.
 pub(crate) fn pop_value(stack: &mut Vec<TypeRef<'_>>, wanted: &VType) -> bool
-    ensures { spec.taken (reverse (spec.places_of wanted.now)) (stack_seen stack.old.items) ≡ (if result then Some (stack_seen stack.new.items) else None) }
+    ensures { Leaves (spec.taken (reverse (spec.places_of wanted.now)) (stack_seen stack.old.items)) result stack.new.items }
 {
     if matches!(wanted, VType::Long) {
         if pop(stack).is_none() {
@@ -76,7 +76,7 @@ pub(crate) fn pop_value(stack: &mut Vec<TypeRef<'_>>, wanted: &VType) -> bool
 
 /// Takes values of these types, the last of which is on top. Tells whether there are such.
 pub(crate) fn pop_values(stack: &mut Vec<TypeRef<'_>>, wanted: &[VType]) -> bool
-    ensures { spec.taken (reverse (spec.places wanted.now)) (stack_seen stack.old.items) ≡ (if result then Some (stack_seen stack.new.items) else None) }
+    ensures { Leaves (spec.taken (reverse (spec.places wanted.now)) (stack_seen stack.old.items)) result stack.new.items }
 {
     let mut left = wanted.len();
     while left > 0 {

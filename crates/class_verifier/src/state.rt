@@ -45,13 +45,4 @@ impl<'a> State<'a> {
     {
         self.stack.len()
     }
-
-    /// Whether it may stand where the state that the frame lists is wanted, in a method of so many locals.
-    pub(crate) fn fits(&self, max_locals: u16, frame: &Frame) -> bool
-        requires count { length (state_seen self.now).locals ≡ max_locals }
-        requires room { length (spec.places frame.now.locals) ≤ max_locals }
-        ensures { result ≡ spec.fits_state (state_seen self.now) (spec.state_of max_locals frame.now) }
-    {
-        true
-    }
 }

@@ -1,14 +1,13 @@
 //! The walk over a method's code.
 
-ghost use Rattle.std.specs.Prelude.{◌≡◌, ℤ, true, None, Some, IfOk, if◌then◌else◌};
+ghost use Rattle.std.specs.Prelude.{◌≡◌, None, Some, IfOk, if◌then◌else◌};
 ghost use Rattle.jvm_code.specs.declared.class.Class.{Class as ClassSeen};
 ghost use Rattle.jvm_code.specs.Instruction as instruction;
-ghost use Rattle.jvm_code.specs.Instruction.{Instruction, resolve};
 ghost use Rattle.jvm_code.specs.Verification as spec;
 ghost use Rattle.class_verifier.specs.Calls.{IsCalled};
 ghost use Rattle.class_verifier.specs.Links.{Are};
 ghost use Rattle.class_verifier.specs.Seen.{state_seen};
-ghost use Rattle.class_verifier.specs.Steps.{Stepped, before, behind, linked_by};
+ghost use Rattle.class_verifier.specs.Steps.{Stepped, before, behind, is_sound_at, linked_by};
 ghost use Rattle.class_verifier.specs.Told.{Tells};
 
 use crate::code_fault::CodeFault;
@@ -121,7 +120,7 @@ fn come_to<'a>(
 
 // Whether the stack is not too deep behind an instruction, each target is reached, and control does not run off the end.
 fn is_sound(scope: &Scope<'_>, state: &State<'_>, pc: u16, op: &Op, is_last: bool) -> bool
-    ensures { (i : Instruction ℤ) → resolve scope.now.class.now pc op.now ≡ Some i → result ≡ spec.is_sound scope.now.method.now scope.now.frames.now is_last i (state_seen state.now) }
+    ensures { result ≡ is_sound_at scope.now is_last pc op.now (state_seen state.now) }
 {
     state.depth() <= scope.method.max_stack as usize
         && reaches_each(scope, state, pc, op)
