@@ -1,3 +1,11 @@
+pub mod Calls
+pub mod Fits
+pub mod Framed
 pub mod Links
 pub mod Messages
+pub mod OpParts
+pub mod Seen
+pub mod Steps
+pub mod Targets
+pub mod Told
 pub mod Verdict

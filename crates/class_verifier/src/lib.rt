@@ -5,9 +5,21 @@
 //! instruction, and the order of faults.
 #![tactic(auto)]
 
+mod after;
+mod code_fault;
 mod fault;
+mod fits;
+mod frames;
 mod links;
+mod locals;
+mod operands;
+mod scope;
+mod state;
+mod table;
+mod targets;
+mod types;
 mod verified;
+mod walk;
 
 pub use fault::{Refused, VerifyFault};
 pub use verified::{Verified, verify};
