@@ -344,9 +344,9 @@ const PAIRS: &str = "\
 1 2 2aac - 1 2 1bac 000080 0 typed:1
 1 2 1bac 000080 1 2 2aac - 0 map
 1 2 1bac - 1 2 1bac 000080 1 map
-2 2 2a1bb80033ac - 1 2 1bac - ok
-1 2 1bac - 2 2 2a1bb80022ac - 1 typed:5
-1 2 1bac - 2 2 2a1bb80037ac - 1 linked:2
+2 2 2a1bb80035ac - 1 2 1bac - ok
+1 2 1bac - 2 2 2a1bb80022ac - 1 typed:2
+1 2 1bac - 2 2 2a1bb80038ac - 1 linked:2
 ";
 
 fn put_u2(bytes: &mut Vec<u8>, number: u16) -> Result<(), AllocError> {

@@ -47,6 +47,7 @@ found ks new k other e = ap (λ ks. list_any (bytes_eq other) (texts ks)) e ∙ 
   where
     among : list_any (eq_held k) ks ≡ true → bytes_eq other k.now ≡ true → list_any (bytes_eq other) (texts ks) ≡ true
     among h same = ap (λ name. list_any (bytes_eq name) (texts ks)) ((bytes_eq-Decides other k.now).0 same) ∙ (sym (has_name ks k.now) ∙ h)
+
     by : (b : Bool) → list_any (eq_held k) ks ≡ b → list_any (bytes_eq other) (texts (cond b ks (ks ++ k ∷ []))) ≡ (list_any (bytes_eq other) (texts ks) || bytes_eq other k.now)
     by true h = or_held (list_any (bytes_eq other) (texts ks)) (bytes_eq other k.now) (among h)
     by false h =

@@ -15,7 +15,7 @@ use crate::operands::{pop, pop_if, pop_two, pop_values, push};
 use crate::state::State;
 use crate::types::{TypeRef, Wanted};
 use ej_term::Text;
-use jvm_code::{Class, Constant, Op};
+use jvm_code::{Class, Constant, Op, utf8_at};
 use sqlite_items::at;
 use std::alloc::AllocError;
 
@@ -177,20 +177,13 @@ fn loaded<'a>(pool: &[Constant], index: u16, string: &'a Text) -> Option<TypeRef
     match at(pool, index as usize) {
         Some(Constant::Integer(_)) => Some(TypeRef::Integer),
         Some(Constant::Str(text)) => {
-            if is_text(pool, *text) {
+            if utf8_at(pool, *text).is_some() {
                 return Some(TypeRef::Class(string));
             }
             None
         }
         _ => None,
     }
-}
-
-// Whether the entry is a text.
-fn is_text(pool: &[Constant], index: u16) -> bool
-    ensures { result ≡ is_some (utf8_at pool.now index) }
-{
-    matches!(at(pool, index as usize), Some(Constant::Utf8(_)))
 }
 
 // The type that `ldc2_w` of an entry of the pool pushes. None where it loads no such entry.

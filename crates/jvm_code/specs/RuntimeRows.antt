@@ -18,7 +18,7 @@ type_of f.Str = S
 abbrev pub method_of : RuntimeRow → Runtime
 method_of r =
     record {
-        entry = record { name = r.name.now; arity = 0; number = r.number };
-        signature = record { takes = map type_of r.takes.now; gives = option_map type_of r.gives };
-        descriptor = r.descriptor.now
+      entry = record { name = r.name.now; arity = 0; number = r.number };
+      signature = record { takes = map type_of r.takes.now; gives = option_map type_of r.gives };
+      descriptor = r.descriptor.now;
     }

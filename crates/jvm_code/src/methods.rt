@@ -97,7 +97,12 @@ static METHODS: [RuntimeRow; 52] = [
     row!(37, "map_exact_guard", "(Lerl/Proc;Lerl/Term;)Lerl/Term;", (Proc, Term) -> Term),
     row!(38, "raise", "(Lerl/Proc;ILerl/Term;)V", (Proc, Int, Term)),
     row!(39, "raw", "(Lerl/Proc;Lerl/Term;Lerl/Term;)I", (Proc, Term, Term) -> Int),
-    row!(40, "again", "(Lerl/Proc;Lerl/Trace;Lerl/Term;)V", (Proc, Trace, Term)),
+    row!(
+        40,
+        "again",
+        "(Lerl/Proc;Lerl/Trace;Lerl/Term;)V",
+        (Proc, Trace, Term)
+    ),
     row!(41, "opened", "(Lerl/Proc;Lerl/Term;)I", (Proc, Term) -> Int),
     row!(42, "caught_class", "(Lerl/Proc;)Lerl/Term;", (Proc) -> Term),
     row!(43, "caught_reason", "(Lerl/Proc;)Lerl/Term;", (Proc) -> Term),

@@ -1,6 +1,4 @@
-use Rattle.std.proofs.Common.{Bool, Option, None, Some, ap, ◌∙◌}
-use Rattle.std.specs.Prelude.{if◌then◌else◌}
-use Rattle.jvm_code.specs.Typing.{State}
+use Rattle.std.proofs.Common.{ap, ◌∙◌}
 use Rattle.class_verifier.specs.Seen.{state_seen}
 use Rattle.class_verifier.proofs.Walking.{typed_step, if_some}
 use Rattle.class_verifier.proofs.walk.type_step.Goals as goal
