@@ -1,9 +1,11 @@
 pub mod AfterLaw
+pub mod Checking
 pub mod FitsLaw
 pub mod Found
 mod Left
 pub mod LocalsKept
 pub mod LocalsLaw
+pub mod Names
 pub mod OpParts
 pub mod Placed
 pub mod Places

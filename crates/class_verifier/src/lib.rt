@@ -6,10 +6,12 @@
 #![tactic(auto)]
 
 mod after;
+mod check;
 mod code_fault;
 mod fault;
 mod fits;
 mod frames;
+mod known;
 mod links;
 mod locals;
 mod operands;
