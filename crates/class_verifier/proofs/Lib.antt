@@ -11,4 +11,5 @@ pub mod Placed
 pub mod Places
 pub mod Room
 pub mod Starts
+pub mod VerdictLaw
 pub mod Walking

@@ -7,13 +7,9 @@ use std::alloc::AllocError;
 #[derive(Clone, Copy, Debug)]
 pub(crate) enum CodeFault {
     /// The types before the instruction, behind it or at a frame are not fit.
-    NotTyped {
-        offset: u16,
-    },
+    NotTyped { offset: u16 },
     /// The instruction calls a method that there is not.
-    NotLinked {
-        offset: u16,
-    },
+    NotLinked { offset: u16 },
     /// Memory was wanting.
     NoMemory,
 }

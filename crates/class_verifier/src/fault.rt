@@ -12,19 +12,11 @@ use thiserror::Error;
 pub enum VerifyFault {
     /// The `StackMapTable` is no list of frames, a frame stands where no instruction begins, or a frame has more places
     /// than the method.
-    BadMap {
-        method: usize,
-    },
+    BadMap { method: usize },
     /// The types before the instruction are not those that it asks for, or those behind it, or at a frame, are not fit.
-    NotTyped {
-        method: usize,
-        offset: u16,
-    },
+    NotTyped { method: usize, offset: u16 },
     /// The instruction calls neither a runtime method nor a method of the class.
-    NotLinked {
-        method: usize,
-        offset: u16,
-    },
+    NotLinked { method: usize, offset: u16 },
     /// Memory was wanting.
     NoMemory,
 }

@@ -69,9 +69,7 @@ fn are_placed(alloc: Global, method: &Method, frames: &[MapFrame]) -> Result<boo
 fn all_pass(method: &Method, starts: &IndexSet<u16>, frames: &[MapFrame]) -> bool
     ensures { result ≡ list_all (λ (f : FrameSeen). contains nat_eq starts.now f.offset && spec.has_room method.now f.frame) frames.now }
 {
-    frames
-        .iter()
-        .all(|frame| is_placed(method, starts, frame))
+    frames.iter().all(|frame| is_placed(method, starts, frame))
 }
 
 fn is_placed(method: &Method, starts: &IndexSet<u16>, frame: &MapFrame) -> bool

@@ -12,6 +12,7 @@ mod fault;
 mod fits;
 mod frames;
 mod known;
+mod laws;
 mod links;
 mod locals;
 mod operands;
@@ -24,4 +25,5 @@ mod verified;
 mod walk;
 
 pub use fault::{Refused, VerifyFault};
+pub use laws::classes_have_one_verdict;
 pub use verified::{Verified, verify};
