@@ -3,6 +3,7 @@ pub mod Checking
 pub mod FitsLaw
 pub mod Found
 mod Left
+pub mod LinksFound
 pub mod LocalsKept
 pub mod LocalsLaw
 pub mod Names

@@ -1,12 +1,12 @@
 -- Where control may go from an instruction, before and after it is resolved.
-use Rattle.std.proofs.Common.{◌≡◌, ℕ, ℤ, Bool, true, false, is_some, List, [], ◌∷◌, map, slice_get, Option, None, Some, option_map, option_and_then, refl, sym, ap, subst, ◌∙◌}
+use Rattle.std.proofs.Common.{◌≡◌, ℕ, ℤ, true, List, [], ◌∷◌, map, slice_get, Option, None, Some, option_map, option_and_then, refl, sym, ap, subst, ◌∙◌}
 use Rattle.jvm_code.specs.declared.class.Class.{Class}
 use Rattle.jvm_code.specs.declared.class.Constant.{Constant}
 use Rattle.jvm_code.specs.declared.class.Constant.TheVariants as c
 use Rattle.jvm_code.specs.declared.class.Op.{Op}
 use Rattle.jvm_code.specs.declared.class.Op.TheVariants as o
 use Rattle.jvm_code.specs.Entries.{utf8_at}
-use Rattle.jvm_code.specs.Instruction.{Callee, Instruction, Str, Invoke, callee_at, is_linked, loaded, loaded_wide, resolve, target}
+use Rattle.jvm_code.specs.Instruction.{Callee, Instruction, Str, Invoke, callee_at, loaded, loaded_wide, resolve, target}
 use Rattle.jvm_code.specs.Typing as spec
 use Rattle.class_verifier.specs.OpParts.{offsets, goes_on}
 

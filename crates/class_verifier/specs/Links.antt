@@ -5,7 +5,7 @@ use Rattle.std.specs.List.{list_any}
 use Rattle.std.specs.Str.{bytes_eq}
 use Rattle.jvm_code.specs.declared.class.Class.{Class}
 use Rattle.jvm_code.specs.declared.class.Constant.{Constant}
-use Rattle.jvm_code.specs.Instruction.{Callee, callee, has_method, method_in, Named as Method}
+use Rattle.jvm_code.specs.Instruction.{Callee, callee, has_method, method_in}
 use Rattle.jvm_code.specs.Signature as spec
 use Rattle.jvm_code.specs.Typing.{signature_of}
 use Rattle.class_verifier.specs.declared.links.Signature.{Signature}

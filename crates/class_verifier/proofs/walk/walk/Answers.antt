@@ -1,4 +1,4 @@
-use Rattle.std.proofs.Common.{ℕ, ◌+◌, ◌≤◌, nat_eq, length, drop, sym, ap, ◌∙◌, arith}
+use Rattle.std.proofs.Common.{◌+◌, nat_eq, length, drop, sym, ap, ◌∙◌, arith}
 use Rattle.jvm_code.specs.Verification.{fault_from}
 use Rattle.class_verifier.specs.Told.{come}
 use Rattle.class_verifier.specs.Seen.{state_seen}
