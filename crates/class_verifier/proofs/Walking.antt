@@ -63,7 +63,7 @@ at_end code n h = by (drop n code) (length-drop n code)
 module _ (scope : Scope) (comes is_last : Bool) (s new : State) (pc : ℕ) (op : Op) (left more : List (ℕ × Op)) (first : Option CodeFault) (e : more ≡ (pc, op) ∷ left)
     (last : is_last ≡ is_empty left) where
   abbrev from : List (ℕ × Op) → Option State → Option CodeFault
-  from = fault_from scope.class.now scope.method.now scope.frames.now
+  from = fault_from scope.class.now scope.method.now scope.frames
 
   abbrev by_link : Bool → Option CodeFault → Option CodeFault
   by_link linked rest = if linked then rest else Some (NotLinked pc)
@@ -90,7 +90,7 @@ module _ (scope : Scope) (comes is_last : Bool) (s new : State) (pc : ℕ) (op :
   walked_stop fault.NoMemory told all = tt
 
   goes : (r : Option (Instruction ℤ)) → resolve scope.class.now pc op ≡ r → is_some (steps.behind scope is_last pc op (before scope comes pc s)) ≡ true → next r new ≡ come (goes_on op) new
-  goes None is some = absurd (true≢false (sym some ∙ ap (λ r. is_some (typed scope.method.now scope.frames.now is_last r (before scope comes pc s))) is))
+  goes None is some = absurd (true≢false (sym some ∙ ap (λ r. is_some (typed scope.method.now scope.frames is_last r (before scope comes pc s))) is))
   goes (Some i) is some = ap (λ b. if b then Some new else None) ((parts_of scope.class.now pc op i is).on)
 
   -- behind an instruction that is fit, what is wrong first is what is wrong with the rest

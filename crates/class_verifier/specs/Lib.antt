@@ -1,4 +1,5 @@
 pub mod Calls
+pub mod Checked
 pub mod Fits
 pub mod Framed
 pub mod Links

@@ -21,17 +21,17 @@ linked_by _ signature = true
 
 -- the state with which an instruction begins
 abbrev pub before : Scope → Bool → ℕ → State → Option State
-before scope comes pc s = at_frame (come comes s) (listed scope.method.now scope.frames.now pc)
+before scope comes pc s = at_frame (come comes s) (listed scope.method.now scope.frames pc)
 
 -- the state behind an instruction that begins with such a state
 abbrev pub behind : Scope → (is_last : Bool) → ℕ → Op → Option State → Option State
-behind scope is_last pc op s = typed scope.method.now scope.frames.now is_last (resolve scope.class.now pc op) s
+behind scope is_last pc op s = typed scope.method.now scope.frames is_last (resolve scope.class.now pc op) s
 
 -- `is_sound`, by the instruction as it stands in the code
 abbrev pub is_sound_at : Scope → (is_last : Bool) → ℕ → Op → State → Bool
 is_sound_at scope is_last pc op s =
     nat_le (length s.stack) scope.method.now.max_stack
-    && (list_all (reaches scope.method.now scope.frames.now s) (map (target pc) (offsets op)) && not (goes_on op && is_last))
+    && (list_all (reaches scope.method.now scope.frames s) (map (target pc) (offsets op)) && not (goes_on op && is_last))
 
 -- the instruction is fit, with this state behind it, or else the fault is told; a want of memory is free
 abbrev pub Stepped : Scope → ℕ → Op → Option State → Result (Unit {0}) CodeFault → State → Type 0

@@ -6,10 +6,13 @@
 #![tactic(auto)]
 
 mod after;
+mod check;
 mod code_fault;
 mod fault;
 mod fits;
 mod frames;
+mod known;
+mod laws;
 mod links;
 mod locals;
 mod operands;
@@ -22,4 +25,5 @@ mod verified;
 mod walk;
 
 pub use fault::{Refused, VerifyFault};
+pub use laws::classes_have_one_verdict;
 pub use verified::{Verified, verify};

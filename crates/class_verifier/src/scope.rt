@@ -9,11 +9,11 @@ use ej_term::Text;
 use jvm_code::{Class, Method};
 
 /// A method with its frames, each at its place, and what the calls of its class name.
-#[derive(Clone, Copy)]
+#[derive(Drop)]
 pub(crate) struct Scope<'a> {
     pub(crate) class: &'a Class,
     pub(crate) method: &'a Method,
-    pub(crate) frames: &'a FrameTable<'a>,
+    pub(crate) frames: FrameTable<'a>,
     pub(crate) links: &'a Links,
     /// The name of the class of strings.
     pub(crate) string: &'a Text,

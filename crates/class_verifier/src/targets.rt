@@ -23,7 +23,7 @@ pub(crate) fn goes_on(op: &Op) -> bool
 
 /// Whether a frame stands at each target of an instruction at that offset, which the state behind it fits.
 pub(crate) fn reaches_each(scope: &Scope<'_>, state: &State<'_>, pc: u16, op: &Op) -> bool
-    ensures { result ≡ list_all (reaches_target scope.now.method.now scope.now.frames.now (state_seen state.now)) (map (target pc) (spec.offsets op.now)) }
+    ensures { result ≡ list_all (reaches_target scope.now.method.now scope.now.frames (state_seen state.now)) (map (target pc) (spec.offsets op.now)) }
 {
     match op {
         Op::If(_, offset) | Op::IfIcmp(_, offset) | Op::IfAcmp(_, offset) => {
@@ -42,7 +42,7 @@ pub(crate) fn reaches_each(scope: &Scope<'_>, state: &State<'_>, pc: u16, op: &O
 }
 
 fn reaches_offsets(scope: &Scope<'_>, state: &State<'_>, pc: u16, offsets: &[i32]) -> bool
-    ensures { result ≡ list_all (reaches_target scope.now.method.now scope.now.frames.now (state_seen state.now)) (map (target pc) offsets.now) }
+    ensures { result ≡ list_all (reaches_target scope.now.method.now scope.now.frames (state_seen state.now)) (map (target pc) offsets.now) }
 {
     for offset in offsets {
         if !reaches(scope, state, pc, *offset) {
@@ -53,7 +53,7 @@ fn reaches_offsets(scope: &Scope<'_>, state: &State<'_>, pc: u16, offsets: &[i32
 }
 
 fn reaches_pairs(scope: &Scope<'_>, state: &State<'_>, pc: u16, pairs: &[(i32, i32)]) -> bool
-    ensures { result ≡ list_all (reaches_target scope.now.method.now scope.now.frames.now (state_seen state.now)) (map (target pc) (map (λ (p : ℤ × ℤ). p.1) pairs.now)) }
+    ensures { result ≡ list_all (reaches_target scope.now.method.now scope.now.frames (state_seen state.now)) (map (target pc) (map (λ (p : ℤ × ℤ). p.1) pairs.now)) }
 {
     for (_, offset) in pairs {
         if !reaches(scope, state, pc, *offset) {
@@ -65,7 +65,7 @@ fn reaches_pairs(scope: &Scope<'_>, state: &State<'_>, pc: u16, pairs: &[(i32, i
 
 // Whether a frame stands at that offset from an instruction, which the state fits.
 fn reaches(scope: &Scope<'_>, state: &State<'_>, pc: u16, offset: i32) -> bool
-    ensures { result ≡ reaches_target scope.now.method.now scope.now.frames.now (state_seen state.now) (target pc offset) }
+    ensures { result ≡ reaches_target scope.now.method.now scope.now.frames (state_seen state.now) (target pc offset) }
 {
     match scope.frames.at(i64::from(pc) + i64::from(offset)) {
         None => false,

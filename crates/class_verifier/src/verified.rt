@@ -3,7 +3,8 @@
 ghost use Rattle.jvm_code.specs.ReadClass.{IsProfile};
 ghost use Rattle.class_verifier.specs.Verdict.{Verifies};
 
-use crate::fault::{Refused, VerifyFault};
+use crate::check::check;
+use crate::fault::Refused;
 use jvm_code::Class;
 use std::alloc::Global;
 use std::marker::Model;
@@ -42,9 +43,8 @@ pub fn verify(alloc: Global, class: Class) -> Result<Verified, Refused>
     requires { IsProfile class }
     ensures { Verifies class result }
 {
-    let _ = alloc;
-    Err(Refused {
-        class,
-        fault: VerifyFault::NoMemory,
-    })
+    match check(alloc, &class) {
+        Ok(()) => Ok(Verified { class }),
+        Err(fault) => Err(Refused { class, fault }),
+    }
 }

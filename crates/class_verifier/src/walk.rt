@@ -21,7 +21,7 @@ use std::alloc::AllocError;
 /// Goes through the method's code from a state at its beginning: what is wrong first with it, if anything is. Afterwards
 /// the state is no longer of use.
 pub(crate) fn walk<'a>(scope: &Scope<'a>, state: &mut State<'a>) -> Result<(), CodeFault>
-    ensures { Tells result (spec.fault_from scope.now.class.now scope.now.method.now scope.now.frames.now scope.now.method.now.code (Some (state_seen state.old))) }
+    ensures { Tells result (spec.fault_from scope.now.class.now scope.now.method.now scope.now.frames scope.now.method.now.code (Some (state_seen state.old))) }
 {
     let code = scope.method.code.as_slice();
     let mut comes = true;

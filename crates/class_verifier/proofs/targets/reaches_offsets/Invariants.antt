@@ -7,5 +7,5 @@ use Rattle.class_verifier.proofs.targets.reaches_offsets.Given as goal
 
 abbrev pub invariant-loop-offset : goal.invariant-loop-offset
 invariant-loop-offset l =
-    list_all (reaches l.scope.method.now l.scope.frames.now (state_seen l.state)) (map (target l.pc) (drop l.offset-index l.offsets))
-    ≡ list_all (reaches l.scope.method.now l.scope.frames.now (state_seen l.state)) (map (target l.pc) l.offsets)
+    list_all (reaches l.scope.method.now l.scope.frames (state_seen l.state)) (map (target l.pc) (drop l.offset-index l.offsets))
+    ≡ list_all (reaches l.scope.method.now l.scope.frames (state_seen l.state)) (map (target l.pc) l.offsets)

@@ -7,5 +7,5 @@ use Rattle.class_verifier.proofs.targets.reaches_pairs.Given as goal
 
 abbrev pub invariant-loop-offset : goal.invariant-loop-offset
 invariant-loop-offset l =
-    list_all (reaches l.scope.method.now l.scope.frames.now (state_seen l.state)) (map (target l.pc) (map (λ (p : ℤ × ℤ). p.1) (drop l.offset-index l.pairs)))
-    ≡ list_all (reaches l.scope.method.now l.scope.frames.now (state_seen l.state)) (map (target l.pc) (map (λ (p : ℤ × ℤ). p.1) l.pairs))
+    list_all (reaches l.scope.method.now l.scope.frames (state_seen l.state)) (map (target l.pc) (map (λ (p : ℤ × ℤ). p.1) (drop l.offset-index l.pairs)))
+    ≡ list_all (reaches l.scope.method.now l.scope.frames (state_seen l.state)) (map (target l.pc) (map (λ (p : ℤ × ℤ). p.1) l.pairs))

@@ -20,7 +20,7 @@ pub loop-index-preserved : goal.loop-index-preserved
 loop-index-preserved c =
     let code = c.as_slice-code.result.now in
     let at = c.loop-index.index in
-    ap (λ comes. fault_from c.args.scope.now.class.now c.args.scope.now.method.now c.args.scope.now.frames.now (drop (at + 1) code) (come comes (state_seen c.step.new.state))) c.goes_on-comes.ensures
+    ap (λ comes. fault_from c.args.scope.now.class.now c.args.scope.now.method.now c.args.scope.now.frames (drop (at + 1) code) (come comes (state_seen c.step.new.state))) c.goes_on-comes.ensures
     ∙ walked_more c.args.scope.now c.loop-index.comes (nat_eq (at + 1) (length code)) (state_seen c.loop-index.state) (state_seen c.step.new.state) c.index-code-index.result.0 c.index-code-index.result.1
     (drop (at + 1) code) (drop at code) _
     (left-list code at c.index-code-index.result c.loop-index-test.true c.index-code-index.is)

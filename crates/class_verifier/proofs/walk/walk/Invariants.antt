@@ -6,5 +6,5 @@ use Rattle.class_verifier.proofs.walk.walk.Given as goal
 
 abbrev pub invariant-loop-index : goal.invariant-loop-index
 invariant-loop-index l =
-    fault_from l.scope.class.now l.scope.method.now l.scope.frames.now (drop l.index l.code) (come l.comes (state_seen l.state))
-    ≡ fault_from l.scope.class.now l.scope.method.now l.scope.frames.now l.scope.method.now.code (Some (state_seen l.initial.state))
+    fault_from l.scope.class.now l.scope.method.now l.scope.frames (drop l.index l.code) (come l.comes (state_seen l.state))
+    ≡ fault_from l.scope.class.now l.scope.method.now l.scope.frames l.scope.method.now.code (Some (state_seen l.initial.state))
