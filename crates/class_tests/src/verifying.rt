@@ -353,9 +353,9 @@ fn put_u2(bytes: &mut Vec<u8>, number: u16) -> Result<(), AllocError> {
     bytes.extend_from_slice(&number.to_be_bytes())
 }
 
-fn put_u4(bytes: &mut Vec<u8>, number: usize) -> Result<(), AllocError> {
-    put_u2(bytes, 0)?;
-    put_u2(bytes, number as u16)
+fn put_u4(bytes: &mut Vec<u8>, number: usize) -> Result<(), Fail> {
+    let number = u32::try_from(number)?;
+    Ok(bytes.extend_from_slice(&number.to_be_bytes())?)
 }
 
 /// The attributes of a method's code: its map, or none.
