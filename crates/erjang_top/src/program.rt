@@ -1,12 +1,13 @@
 //! The top call.
 
-ghost use Rattle.std.specs.Prelude.{◌≡◌, map, string_bytes, IfSome, IfNone};
-ghost use Rattle.erjang_top.specs.Words.{compile_words};
-ghost use Rattle.erjang_top.specs.Answers.{Answers, Usage};
+ghost use Rattle.std.specs.Prelude.{map, string_bytes, IfSome, IfNone};
+ghost use Rattle.erjang_top.specs.Words.{command_of};
+ghost use Rattle.erjang_top.specs.Program.{AnswersCommand, Usage};
 
+use crate::classes::verify_each;
 use crate::compile::compile;
 use crate::report::{report, usage};
-use crate::words::compile_words;
+use crate::words::{Command, command_of};
 use ej_outside::{Shelf, Sink};
 use std::alloc::Global;
 
@@ -52,15 +53,17 @@ pub fn erjang<S: Shelf, O: Sink, E: Sink>(
     out: &mut O,
     err: &mut E,
 ) -> u8
-    ensures usage { IfNone (compile_words (map string_bytes words.now)) (Usage result (S.state shelf.old) (S.state shelf.new) (E.state err.old) (E.state err.new)) }
-    ensures answers { IfSome (compile_words (map string_bytes words.now)) (λ w. Answers w result (S.state shelf.old) (S.state shelf.new) (E.state err.old) (E.state err.new)) }
-    ensures out_untouched { O.state out.new ≡ O.state out.old }
+    ensures usage { IfNone (command_of (map string_bytes words.now)) (Usage result (S.state shelf.old) (S.state shelf.new) (O.state out.old) (O.state out.new) (E.state err.old) (E.state err.new)) }
+    ensures answers { IfSome (command_of (map string_bytes words.now)) (λ command. AnswersCommand command result (S.state shelf.old) (S.state shelf.new) (O.state out.old) (O.state out.new) (E.state err.old) (E.state err.new)) }
 {
-    let _ = out;
-    match compile_words(words) {
+    match command_of(words) {
         None => usage(err),
-        Some(command) => {
-            let outcome = compile(alloc, shelf, command);
+        Some(Command::Compile(words)) => {
+            let outcome = compile(alloc, shelf, words);
+            report(alloc, err, outcome)
+        }
+        Some(Command::Verify(files)) => {
+            let outcome = verify_each(alloc, shelf, out, files);
             report(alloc, err, outcome)
         }
     }
