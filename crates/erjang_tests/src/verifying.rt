@@ -92,15 +92,43 @@ const ANSWERS: [(&str, usize, &str); 14] = [
     ("cut.class", 0, "cut.class: byte 116: no class file\n"),
     ("more.class", 0, "more.class: byte 118: no class file\n"),
     ("empty.class", 0, "empty.class: byte 0: no class file\n"),
-    ("version.class", 0, "version.class: byte 6: outside the profile\n"),
-    ("opcode.class", 0, "opcode.class: byte 110: outside the profile\n"),
-    ("untyped.class", 0, "untyped.class: method 0, offset 1: not typed\n"),
-    ("call.class", 0, "call.class: method 0, offset 2: not linked\n"),
+    (
+        "version.class",
+        0,
+        "version.class: byte 6: outside the profile\n",
+    ),
+    (
+        "opcode.class",
+        0,
+        "opcode.class: byte 110: outside the profile\n",
+    ),
+    (
+        "untyped.class",
+        0,
+        "untyped.class: method 0, offset 1: not typed\n",
+    ),
+    (
+        "call.class",
+        0,
+        "call.class: method 0, offset 2: not linked\n",
+    ),
     ("map.class", 0, "map.class: method 0: bad stack map\n"),
     ("none.class a.class", 0, "none.class: absent\n"),
-    ("a.class m.class none.class cut.class", 2, "none.class: absent\n"),
-    ("m.class cut.class none.class a.class", 1, "cut.class: byte 116: no class file\n"),
-    ("a.class a.class untyped.class cut.class", 2, "untyped.class: method 0, offset 1: not typed\n"),
+    (
+        "a.class m.class none.class cut.class",
+        2,
+        "none.class: absent\n",
+    ),
+    (
+        "m.class cut.class none.class a.class",
+        1,
+        "cut.class: byte 116: no class file\n",
+    ),
+    (
+        "a.class a.class untyped.class cut.class",
+        2,
+        "untyped.class: method 0, offset 1: not typed\n",
+    ),
 ];
 
 // The lines of the first of the names.
@@ -121,22 +149,70 @@ fn verifies_up_to_the_first_that_is_refused(rt: HostRuntime) -> Result<(), Fail>
         let ran = verify(alloc, names, NONE)?;
         let status = if said.is_empty() { 0 } else { 1 };
         assert_eq!(rt; ran.status, status, "{names}");
-        assert_eq!(rt; ran.out.taken(), lines(alloc, names, count)?.as_bytes(), "{names}");
+        assert_eq!(rt;
+            ran.out.taken(),
+            lines(alloc, names, count)?.as_bytes(),
+            "{names}"
+        );
         assert_eq!(rt; ran.err.taken(), said.as_bytes(), "{names}");
-        assert_eq!(rt; ran.shelf.held("a.class"), Some(PLAIN.as_slice()), "{names}");
+        assert_eq!(rt;
+            ran.shelf.held("a.class"),
+            Some(PLAIN.as_slice()),
+            "{names}"
+        );
     }
     Ok(())
 }
 
 // What a call is, which calls fail, and what then comes: the status, what is written, and what is said.
 const FAULTS: [(&str, Fails<'static>, u8, &str, &str); 7] = [
-    ("a.class m.class", Fails { shelf: &[1], ..NONE }, 3, "ok a.class\n", "m.class: read failed\n"),
-    ("cut.class", Fails { shelf: &[0], ..NONE }, 3, "", "cut.class: read failed\n"),
+    (
+        "a.class m.class",
+        Fails {
+            shelf: &[1],
+            ..NONE
+        },
+        3,
+        "ok a.class\n",
+        "m.class: read failed\n",
+    ),
+    (
+        "cut.class",
+        Fails {
+            shelf: &[0],
+            ..NONE
+        },
+        3,
+        "",
+        "cut.class: read failed\n",
+    ),
     ("cut.class", Fails { err: &[1], ..NONE }, 4, "", "cut.class"),
     ("a.class", Fails { out: &[0], ..NONE }, 4, "", ""),
-    ("a.class m.class cut.class", Fails { out: &[4], ..NONE }, 4, "ok a.class\nok ", ""),
-    ("a.class m.class cut.class", Fails { out: &[6], ..NONE }, 1, "ok a.class\nok m.class\n", "cut.class: byte 116: no class file\n"),
-    ("m.class a.class", Fails { shelf: &[1], out: &[], err: &[0] }, 4, "ok m.class\n", ""),
+    (
+        "a.class m.class cut.class",
+        Fails { out: &[4], ..NONE },
+        4,
+        "ok a.class\nok ",
+        "",
+    ),
+    (
+        "a.class m.class cut.class",
+        Fails { out: &[6], ..NONE },
+        1,
+        "ok a.class\nok m.class\n",
+        "cut.class: byte 116: no class file\n",
+    ),
+    (
+        "m.class a.class",
+        Fails {
+            shelf: &[1],
+            out: &[],
+            err: &[0],
+        },
+        4,
+        "ok m.class\n",
+        "",
+    ),
 ];
 
 #[test]
@@ -166,6 +242,9 @@ fn tells_a_file_that_is_too_long(rt: HostRuntime) -> Result<(), Fail> {
     let status = erjang(alloc, words.as_slice(), &mut shelf, &mut out, &mut err);
     assert_eq!(rt; status, 1);
     assert!(rt; out.taken().is_empty());
-    assert_eq!(rt; err.taken(), b"long.class: longer than 67108864 bytes\n".as_slice());
+    assert_eq!(rt;
+        err.taken(),
+        b"long.class: longer than 67108864 bytes\n".as_slice()
+    );
     Ok(())
 }

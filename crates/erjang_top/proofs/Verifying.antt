@@ -156,7 +156,7 @@ refused : (files before after : List (List ℕ)) (file : List ℕ) (cause : Refu
 refused files before after file cause old mid new out out' is p q =
     let blame : Blame = record { file = file; cause = cause } in
     let told = both_told old.held _ _ (λ held. StopsAtClass held files blame) p.1 (at_old (λ held. IsBadClass held file cause) old mid p.0 q.told)
-        (λ held good bad. subst (λ (fs : List (List ℕ)). StopsAtClass held fs blame) (sym is) (stops held before after blame good bad)) in
+    (λ held good bad. subst (λ (fs : List (List ℕ)). StopsAtClass held fs blame) (sym is) (stops held before after blame good bad)) in
     record {
       kind = q.kind;
       reached = record { before = before; after = after; is = is; good = p.1 };

@@ -13,11 +13,7 @@ const LONGEST_FILE: u64 = 67108864;
 ///
 /// # Errors
 /// That there is no such file, that it has too many bytes, that it could not be read, or that memory was wanting.
-pub(crate) fn get_file<S: Shelf>(
-    alloc: Global,
-    shelf: &mut S,
-    file: &str,
-) -> Result<Vec<u8>, Fault>
+pub(crate) fn get_file<S: Shelf>(alloc: Global, shelf: &mut S, file: &str) -> Result<Vec<u8>, Fault>
     ensures { GetsFile file.now (S.state shelf.old) result (S.state shelf.new) }
 {
     match shelf.get(alloc, file, LONGEST_FILE) {
