@@ -46,30 +46,16 @@ fn classes(alloc: Global) -> Result<Vec<(String, Vec<u8>)>, AllocError> {
     Ok(files)
 }
 
-// The numbers of the calls that fail, of the shelf and both sinks.
-#[derive(Clone, Copy)]
-struct Fails<'a> {
-    shelf: &'a [u64],
-    out: &'a [u64],
-    err: &'a [u64],
-}
-
-const NONE: Fails<'static> = Fails {
-    shelf: &[],
-    out: &[],
-    err: &[],
-};
+// The numbers of the calls that fail, of the shelf and of both sinks.
+type Fails<'a> = [&'a [u64]; 3];
 
 // Calls `verify` on these names, over those classes.
 fn verify(alloc: Global, names: &str, fails: Fails<'_>) -> Result<Ran, AllocError> {
-    let mut shelf = MemShelf::new(
-        alloc,
-        classes(alloc)?,
-        0,
-        Vec::from_slice(alloc, fails.shelf)?,
-    )?;
-    let mut out = MemSink::new(alloc, 4096, Vec::from_slice(alloc, fails.out)?)?;
-    let mut err = MemSink::new(alloc, 4096, Vec::from_slice(alloc, fails.err)?)?;
+    let [shelf_fails, out_fails, err_fails] = fails;
+    let shelf_fails = Vec::from_slice(alloc, shelf_fails)?;
+    let mut shelf = MemShelf::new(alloc, classes(alloc)?, 0, shelf_fails)?;
+    let mut out = MemSink::new(alloc, 4096, Vec::from_slice(alloc, out_fails)?)?;
+    let mut err = MemSink::new(alloc, 4096, Vec::from_slice(alloc, err_fails)?)?;
     let mut words = Vec::new(alloc);
     words.push("verify")?;
     for name in names.split(' ') {
@@ -85,51 +71,23 @@ fn verify(alloc: Global, names: &str, fails: Fails<'_>) -> Result<Ran, AllocErro
     })
 }
 
-// The names, of how many there are lines, and what is said of the next, if anything.
-const ANSWERS: [(&str, usize, &str); 14] = [
-    ("a.class", 1, ""),
-    ("a.class m.class a.class", 3, ""),
-    ("cut.class", 0, "cut.class: byte 116: no class file\n"),
-    ("more.class", 0, "more.class: byte 118: no class file\n"),
-    ("empty.class", 0, "empty.class: byte 0: no class file\n"),
-    (
-        "version.class",
-        0,
-        "version.class: byte 6: outside the profile\n",
-    ),
-    (
-        "opcode.class",
-        0,
-        "opcode.class: byte 110: outside the profile\n",
-    ),
-    (
-        "untyped.class",
-        0,
-        "untyped.class: method 0, offset 1: not typed\n",
-    ),
-    (
-        "call.class",
-        0,
-        "call.class: method 0, offset 2: not linked\n",
-    ),
-    ("map.class", 0, "map.class: method 0: bad stack map\n"),
-    ("none.class a.class", 0, "none.class: absent\n"),
-    (
-        "a.class m.class none.class cut.class",
-        2,
-        "none.class: absent\n",
-    ),
-    (
-        "m.class cut.class none.class a.class",
-        1,
-        "cut.class: byte 116: no class file\n",
-    ),
-    (
-        "a.class a.class untyped.class cut.class",
-        2,
-        "untyped.class: method 0, offset 1: not typed\n",
-    ),
-];
+// Of how many there are lines, the names, and what is said of the next, if anything.
+const ANSWERS: &str = "\
+1 a.class
+3 a.class m.class a.class
+0 cut.class ==> cut.class: byte 116: no class file
+0 more.class ==> more.class: byte 118: no class file
+0 empty.class ==> empty.class: byte 0: no class file
+0 version.class ==> version.class: byte 6: outside the profile
+0 opcode.class ==> opcode.class: byte 110: outside the profile
+0 untyped.class ==> untyped.class: method 0, offset 1: not typed
+0 call.class ==> call.class: method 0, offset 2: not linked
+0 map.class ==> map.class: method 0: bad stack map
+0 none.class a.class ==> none.class: absent
+2 a.class m.class none.class cut.class ==> none.class: absent
+1 m.class cut.class none.class a.class ==> cut.class: byte 116: no class file
+2 a.class a.class untyped.class cut.class ==> untyped.class: method 0, offset 1: not typed
+";
 
 // The lines of the first of the names.
 fn lines(alloc: Global, names: &str, count: usize) -> Result<String, AllocError> {
@@ -145,73 +103,57 @@ fn lines(alloc: Global, names: &str, count: usize) -> Result<String, AllocError>
 #[test]
 fn verifies_up_to_the_first_that_is_refused(rt: HostRuntime) -> Result<(), Fail> {
     let alloc = rt.alloc();
-    for (names, count, said) in ANSWERS {
-        let ran = verify(alloc, names, NONE)?;
-        let status = if said.is_empty() { 0 } else { 1 };
-        assert_eq!(rt; ran.status, status, "{names}");
-        assert_eq!(rt;
-            ran.out.taken(),
-            lines(alloc, names, count)?.as_bytes(),
-            "{names}"
-        );
-        assert_eq!(rt; ran.err.taken(), said.as_bytes(), "{names}");
-        assert_eq!(rt;
-            ran.shelf.held("a.class"),
-            Some(PLAIN.as_slice()),
-            "{names}"
-        );
+    for row in ANSWERS.lines() {
+        let (count, row) = row.split_once(' ').unwrap_or((row, ""));
+        let (names, line) = row.split_once(" ==> ").unwrap_or((row, ""));
+        let ran = verify(alloc, names, [&[], &[], &[]])?;
+        let status = if line.is_empty() { 0 } else { 1 };
+        let written = lines(alloc, names, count.parse().unwrap_or(0))?;
+        let said = if line.is_empty() {
+            String::new(alloc)
+        } else {
+            format!(in alloc; "{line}\n")?
+        };
+        assert_eq!(rt; ran.status, status, "{row}");
+        assert_eq!(rt; ran.out.taken(), written.as_bytes(), "{row}");
+        assert_eq!(rt; ran.err.taken(), said.as_bytes(), "{row}");
+        assert_eq!(rt; ran.shelf.held("a.class"), Some(PLAIN.as_slice()));
     }
     Ok(())
 }
 
-// What a call is, which calls fail, and what then comes: the status, what is written, and what is said.
+// The names, the calls that fail, and what then comes: the status, what is written, and what is said.
 const FAULTS: [(&str, Fails<'static>, u8, &str, &str); 7] = [
     (
         "a.class m.class",
-        Fails {
-            shelf: &[1],
-            ..NONE
-        },
+        [&[1], &[], &[]],
         3,
         "ok a.class\n",
         "m.class: read failed\n",
     ),
     (
         "cut.class",
-        Fails {
-            shelf: &[0],
-            ..NONE
-        },
+        [&[0], &[], &[]],
         3,
         "",
         "cut.class: read failed\n",
     ),
-    ("cut.class", Fails { err: &[1], ..NONE }, 4, "", "cut.class"),
-    ("a.class", Fails { out: &[0], ..NONE }, 4, "", ""),
+    ("cut.class", [&[], &[], &[1]], 4, "", "cut.class"),
+    ("m.class a.class", [&[1], &[], &[0]], 4, "ok m.class\n", ""),
+    ("a.class", [&[], &[0], &[]], 4, "", ""),
     (
         "a.class m.class cut.class",
-        Fails { out: &[4], ..NONE },
+        [&[], &[4], &[]],
         4,
         "ok a.class\nok ",
         "",
     ),
     (
-        "a.class m.class cut.class",
-        Fails { out: &[6], ..NONE },
+        "a.class none.class",
+        [&[], &[3], &[]],
         1,
-        "ok a.class\nok m.class\n",
-        "cut.class: byte 116: no class file\n",
-    ),
-    (
-        "m.class a.class",
-        Fails {
-            shelf: &[1],
-            out: &[],
-            err: &[0],
-        },
-        4,
-        "ok m.class\n",
-        "",
+        "ok a.class\n",
+        "none.class: absent\n",
     ),
 ];
 
