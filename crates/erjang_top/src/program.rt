@@ -71,8 +71,8 @@ pub fn erjang<S: Shelf, O: Sink, E: Sink>(
             report(alloc, err, outcome)
         }
         Some(Command::Verify(files)) => {
-            let outcome = verify_each(alloc, shelf, out, files);
-            report(alloc, err, outcome)
+            let verified = verify_each(alloc, shelf, out, files);
+            report(alloc, err, verified)
         }
     }
 }

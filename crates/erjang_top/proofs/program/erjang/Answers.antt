@@ -15,6 +15,6 @@ returns-in-Some-Compile-clause-answers g c =
 
 pub returns-in-Some-Verify-clause-answers : goal.returns-in-Some-Verify-clause-answers
 returns-in-Some-Verify-clause-answers g c =
-    subst (λ (o : Option Command). IfSome o (λ command. AnswersCommand command c.report-in-Some-Verify.result (g.S.Shelf.state c.args.shelf.now) (g.S.Shelf.state c.verify_each-outcome.new.shelf) (g.O.Sink.state c.args.out.now) (g.O.Sink.state c.verify_each-outcome.new.out) (g.E.Sink.state c.args.err.now) (g.E.Sink.state c.report-in-Some-Verify.new.err)))
+    subst (λ (o : Option Command). IfSome o (λ command. AnswersCommand command c.report-in-Some-Verify.result (g.S.Shelf.state c.args.shelf.now) (g.S.Shelf.state c.verify_each-verified.new.shelf) (g.O.Sink.state c.args.out.now) (g.O.Sink.state c.verify_each-verified.new.out) (g.E.Sink.state c.args.err.now) (g.E.Sink.state c.report-in-Some-Verify.new.err)))
     (rw c.in-Some-Verify.field-0-is at c.in-Some-Verify.ensures)
-    (answer_verify (map string_bytes c.in-Some-Verify.files.now) _ _ _ _ _ _ _ _ c.verify_each-outcome.ensures c.report-in-Some-Verify.ensures)
+    (answer_verify (map string_bytes c.in-Some-Verify.files.now) _ _ _ _ _ _ _ _ c.verify_each-verified.ensures c.report-in-Some-Verify.ensures)
