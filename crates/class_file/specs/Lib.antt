@@ -1,6 +1,7 @@
 pub mod Again
 pub mod Contents
 pub mod Gave
+pub mod Messages
 pub mod Moved
 pub mod Parts
 pub mod Place

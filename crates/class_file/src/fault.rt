@@ -4,6 +4,7 @@ ghost use Rattle.std.specs.Prelude.{◌≡◌};
 ghost use Rattle.class_file.specs.Moved.{moved_to};
 
 use std::alloc::AllocError;
+use std::fmt;
 use thiserror::Error;
 
 /// Why bytes are no class of the profile: the first field that fails, by the offset of its first byte, or a want of
@@ -11,14 +12,33 @@ use thiserror::Error;
 #[derive(Clone, Copy, Debug, PartialEq, Eq, Error)]
 pub enum ClassFault {
     /// The bytes end there, or break the format.
-    #[error("byte {offset}: no class file")]
-    NotClass { offset: usize },
+    NotClass {
+        offset: usize,
+    },
     /// The profile forbids what stands there.
-    #[error("byte {offset}: outside the profile")]
-    OutsideProfile { offset: usize },
+    OutsideProfile {
+        offset: usize,
+    },
     /// Memory was wanting.
-    #[error("out of memory")]
     NoMemory,
+}
+
+/// What is said of the fault: the offset, and what is wrong there.
+impl fmt::Display for ClassFault {
+    ghost use Rattle.std.specs.Prelude.{Some};
+    ghost use Rattle.class_file.specs.Messages.{message};
+
+    ghost output = { λ fault. Some (message fault) };
+
+    fn fmt<W: fmt::Write>(&self, f: &mut fmt::Formatter<W>) -> fmt::Result {
+        match self {
+            ClassFault::NotClass { offset } => write!(f, "byte {offset}: no class file"),
+            ClassFault::OutsideProfile { offset } => {
+                write!(f, "byte {offset}: outside the profile")
+            }
+            ClassFault::NoMemory => write!(f, "out of memory"),
+        }
+    }
 }
 
 impl From<AllocError> for ClassFault {

@@ -21,3 +21,5 @@ mod slots;
 mod source_rows;
 #[cfg(test)]
 mod text_rows;
+#[cfg(test)]
+mod verifying;

@@ -42,7 +42,7 @@ pub(crate) struct Ran {
     pub(crate) err: MemSink,
 }
 
-fn texts(alloc: Global, words: &[&str]) -> Result<Vec<String>, AllocError> {
+pub(crate) fn texts(alloc: Global, words: &[&str]) -> Result<Vec<String>, AllocError> {
     let mut texts = Vec::new(alloc);
     for word in words {
         texts.push(String::from_str(alloc, *word)?)?;
@@ -151,7 +151,7 @@ fn expect_line(
 
 #[test]
 fn takes_no_other_words(rt: HostRuntime) -> Result<(), Fail> {
-    let lists: [&[&str]; 8] = [
+    let lists: [&[&str]; 11] = [
         &[],
         &["compile"],
         &["compile", "o"],
@@ -159,7 +159,10 @@ fn takes_no_other_words(rt: HostRuntime) -> Result<(), Fail> {
         &["compile", "o", ""],
         &["compile", "o", "", NAME],
         &["compile", "o", NAME, ""],
-        &["verify", "o", NAME],
+        &["verify"],
+        &["verify", ""],
+        &["verify", NAME, ""],
+        &["beam", "o", NAME],
     ];
     for words in lists {
         expect_line(&rt, words, SOURCE.as_bytes(), 2, USAGE)?;

@@ -1,4 +1,4 @@
--- The answer, from what the work left and what the report said.
+-- The answer to `compile`, from what the work left and what the report said.
 use Rattle.std.proofs.Common.{◌≡◌, ℕ, ◌⊎◌, inl, inr, List, codes, Option, None, Some, Result, Ok, Err, IfSome, sym, ap, subst, ◌∙◌, arith}
 use Rattle.ej_outside.specs.Counts.{Same, Rises}
 use Rattle.ej_outside.specs.Shelf.{Files, ShelfState}
@@ -13,7 +13,7 @@ use Rattle.erjang_top.proofs.OneFirst.{one_first}
 use Rattle.erjang_top.specs.Work.{WorkStops, Works, RefusesFor, ReportsAt, Reports}
 
 -- a count that rose is not quiet
-not_quiet : {G : Type 0} (old new : ℕ) → Rises old new → Quiet old new → G
+pub not_quiet : {G : Type 0} (old new : ℕ) → Rises old new → Quiet old new → G
 not_quiet old new (within, inl rose) (same, end) = absurd (omega arith)
 not_quiet old new (within, inr at_end) (same, end) = absurd (end at_end)
 
@@ -137,6 +137,8 @@ answer_at w file fault.Longer status old new err err' p (inr cut) = answer_write
 answer_at w file (fault.Refused cause) status old new err err' p q = answer_said w (blame_at file (OfSource cause)) status old new err err' p p.counted q
 answer_at w file (fault.NotBuilt func index) status old new err err' p q = answer_said w (blame_at file (NotBuilt func index)) status old new err err' p p.counted q
 answer_at w file (fault.SameModule earlier) status old new err err' p q = answer_said w (blame_at file (SameModule earlier)) status old new err err' p p.counted q
+answer_at w file (fault.Class cause) status old new err err' p q = absurd p
+answer_at w file (fault.Code cause) status old new err err' p q = absurd p
 answer_at w file fault.ReadFailed status old new err err' p (inl said) = answer_read_failed w file status old new err err' said.0 p said.1
 answer_at w file fault.ReadFailed status old new err err' p (inr cut) = answer_write_failed w status old new err err' cut.0 (inr (inl (file, p, cut.1)))
 answer_at w file fault.NoMemory status old new err err' p q = answer_no_memory w status old new err err' q.0 p q.1
@@ -146,5 +148,5 @@ pub answer : (w : Compile) (outcome : Result (Unit {0}) Stopped) (status : ℕ) 
     → Works w old outcome new → Reports outcome status err err' → Answers w status old new err err'
 answer w (Ok done) status old new err err' p q = answer_done w status old new err err' q.0 p q.1
 answer w (Err (stopped.At file f)) status old new err err' p q = answer_at w file.now f status old new err err' p q
-answer w (Err stopped.PutFailed) status old new err err' p q = answer_write_failed w status old new err err' q.0 (inr (inr (p, q.1)))
+answer w (Err stopped.WriteFailed) status old new err err' p q = answer_write_failed w status old new err err' q.0 (inr (inr (p, q.1)))
 answer w (Err stopped.NoMemory) status old new err err' p q = answer_no_memory w status old new err err' q.0 p q.1

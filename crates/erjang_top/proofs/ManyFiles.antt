@@ -14,7 +14,7 @@ use Rattle.erjang_top.specs.declared.fault.Fault.{Fault}
 use Rattle.erjang_top.specs.declared.fault.Fault.TheVariants as fault
 use Rattle.erjang_top.specs.declared.fault.Stopped.{Stopped}
 use Rattle.erjang_top.specs.declared.fault.Stopped.TheVariants as stopped
-use Rattle.erjang_top.specs.Answers.{Refusal, Absent, Longer, OfSource, NotBuilt, Blame, IsOf, IsGood, IsBad, StopsAt, First, first_twice, Reached, Counted, Refused, Put, put_each, ArePuts, Compiled, PutFailed, Told, SameCounts, class_file, longest_file}
+use Rattle.erjang_top.specs.Answers.{Refusal, Absent, Longer, OfSource, NotBuilt, IsOfSource, Blame, IsOf, IsGood, IsBad, StopsAt, First, first_twice, Reached, Counted, Refused, Put, put_each, ArePuts, Compiled, PutFailed, Told, SameCounts, class_file, longest_file}
 use Rattle.erjang_top.specs.Sources.{IsSource}
 use Rattle.erjang_top.specs.Words.{Compile}
 use Rattle.erjang_top.specs.Work.{IsClassOf, IsBuilt, FileFails, FileIsBad, StopsWith, AllStop, WorkStops, Works, PutsSome, PutsAll, modules_of, puts_of, twice_at}
@@ -125,35 +125,38 @@ both_told None P Q R p q f = tt
 both_told (Some held) P Q R p q f = f held p q
 
 -- where the first refusal is told, there is no other
-refused_first : (w : Compile) (blame : Blame) (old new : ShelfState) → Reached old.held w blame.file → IfSome old.held (λ held. First held w (Some blame))
+refused_first : (w : Compile) (blame : Blame) (old new : ShelfState) → IsOfSource blame.cause → Reached old.held w blame.file → IfSome old.held (λ held. First held w (Some blame))
     → Counted blame.cause old new → Refused w blame old new
-refused_first w blame old new reached told counted = record {
+refused_first w blame old new kind reached told counted = record {
+  kind = kind;
   reached = reached;
   told = told;
   only = told_map old.held (λ held. First held w (Some blame)) _ told (λ held first other is. one_first held w other (Some blame) is first);
   counted = counted;
 }
 
-bad_refused : (w : Compile) (file : List ℕ) (cause : Refusal) (old new : ShelfState) → Reached old.held w file → FileIsBad file cause old new
+bad_refused : (w : Compile) (file : List ℕ) (cause : Refusal) (old new : ShelfState) → IsOfSource cause → Reached old.held w file → FileIsBad file cause old new
     → Refused w (record { file = file; cause = cause }) old new
-bad_refused w file cause old new reached bad =
+bad_refused w file cause old new kind reached bad =
     let blame : Blame = record { file = file; cause = cause } in
-    refused_first w blame old new reached
+    refused_first w blame old new kind reached
     (both_told old.held _ _ (λ held. First held w (Some blame)) reached.good bad.told (λ held good is. first_stops held w reached.before reached.after blame reached.is good is))
     bad.counted
 
 pub work_stops : (w : Compile) (file : List ℕ) (f : Fault) (old new : ShelfState) → StopsWith w file f old new → WorkStops w file old f new
-work_stops w file fault.Absent old new s = bad_refused w file Absent old new s.reached s.fails
-work_stops w file fault.Longer old new s = bad_refused w file Longer old new s.reached s.fails
-work_stops w file (fault.Refused cause) old new s = bad_refused w file (OfSource cause) old new s.reached s.fails
-work_stops w file (fault.NotBuilt func index) old new s = bad_refused w file (NotBuilt func index) old new s.reached s.fails
+work_stops w file fault.Absent old new s = bad_refused w file Absent old new tt s.reached s.fails
+work_stops w file fault.Longer old new s = bad_refused w file Longer old new tt s.reached s.fails
+work_stops w file (fault.Refused cause) old new s = bad_refused w file (OfSource cause) old new tt s.reached s.fails
+work_stops w file (fault.NotBuilt func index) old new s = bad_refused w file (NotBuilt func index) old new tt s.reached s.fails
 work_stops w file (fault.SameModule earlier) old new s = absurd s.fails
+work_stops w file (fault.Class cause) old new s = absurd s.fails
+work_stops w file (fault.Code cause) old new s = absurd s.fails
 work_stops w file fault.ReadFailed old new s = record { reached = s.reached; counted = s.fails }
 work_stops w file fault.NoMemory old new s = s.fails
 
 stops_all : (w : Compile) (old new : ShelfState) (s : Stopped) → AllStop w old s new → Works w old (Err s) new
 stops_all w old new (stopped.At file f) b = work_stops w file.now f old new b
-stops_all w old new stopped.PutFailed b = absurd b
+stops_all w old new stopped.WriteFailed b = absurd b
 stops_all w old new stopped.NoMemory b = b
 
 -- an error that is passed on
@@ -213,7 +216,7 @@ pub work_twice : (w : Compile) (old : ShelfState) (classes : List ReadyClass) (f
     → Refused w (twice_at file earlier) old old
 work_twice w old classes file earlier built e =
     let at = placed [] w.files (modules_of classes) (twice_at file earlier) (sym e) in
-    refused_first w (twice_at file earlier) old old
+    refused_first w (twice_at file earlier) old old tt
     (record {
       before = at.before;
       after = at.after;

@@ -7,7 +7,7 @@ use Rattle.ej_outside.specs.Shelf.{Files}
 use Rattle.erjang_compile.specs.declared.fault.SourceFault.{SourceFault}
 use Rattle.erjang_compile.specs.Faults.{HasFault}
 use Rattle.erjang_compile.proofs.OneAnswer.{law as one_answer}
-use Rattle.erjang_top.specs.Answers.{Refusal, Absent, Longer, OfSource, NotBuilt, SameModule, Blame, IsOf, IsGood, IsBad, StopsAt, AllRead, First, first_twice, longest_file}
+use Rattle.erjang_top.specs.Answers.{Refusal, Absent, Longer, OfSource, NotBuilt, SameModule, OfClass, OfCode, Blame, IsOf, IsGood, IsBad, StopsAt, AllRead, First, first_twice, longest_file}
 use Rattle.erjang_top.specs.Sources.{IsSource, IsNotBuilt}
 use Rattle.erjang_top.specs.Words.{Compile}
 use Rattle.erjang_top.specs.first_path.Built.{FirstUnbuilt}
@@ -110,6 +110,8 @@ judged held file (Some Longer) p = of_long _ p
 judged held file (Some (OfSource fault)) p = of_bytes _ _ (Bad fault) refl p
 judged held file (Some (NotBuilt func index)) p = of_bytes _ _ (Unbuilt func index) refl p
 judged held file (Some (SameModule earlier)) p = absurd p
+judged held file (Some (OfClass fault)) p = absurd p
+judged held file (Some (OfCode fault)) p = absurd p
 judged held file None p = of_good _ p.0 p.1
 
 one_alone : (held : Files) (file : List ℕ) (a b : Option Refusal) → Alone held file a → Alone held file b → a ≡ b
@@ -118,10 +120,10 @@ one_alone held file a b p q =
     let y = judged held file b q in
     x.told ∙ ap refusal_in (one_verdict (files.get held file) x.verdict y.verdict x.judges y.judges) ∙ sym y.told
 
-some_same : {A : Type 0} (x y : A) → ◌≡◌ {A = Option A} (Some x) (Some y) → x ≡ y
+pub some_same : {A : Type 0} (x y : A) → ◌≡◌ {A = Option A} (Some x) (Some y) → x ≡ y
 some_same x y e = cc
 
-some_none : {A G : Type 0} (x : A) → ◌≡◌ {A = Option A} (Some x) None → G
+pub some_none : {A G : Type 0} (x : A) → ◌≡◌ {A = Option A} (Some x) None → G
 some_none x e = absurd (cc)
 
 one_bad : (held : Files) (file : List ℕ) (a b : Refusal) → IsBad held file a → IsBad held file b → a ≡ b
@@ -133,7 +135,7 @@ not_good_and_bad held file a p q = some_none a (one_alone held file (Some a) Non
 abbrev made : List ℕ → Refusal → Blame
 made file cause = record { file = file; cause = cause }
 
-same_blame : (a b : Blame) → a.file ≡ b.file → a.cause ≡ b.cause → a ≡ b
+pub same_blame : (a b : Blame) → a.file ≡ b.file → a.cause ≡ b.cause → a ≡ b
 same_blame a b e f = ap₂ made e f
 
 stops_same : (held : Files) (files : List (List ℕ)) (a b : Blame) → StopsAt held files a → StopsAt held files b → a ≡ b

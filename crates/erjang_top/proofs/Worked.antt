@@ -18,7 +18,7 @@ abbrev pub Read : List ℕ → List ℕ → ShelfState → ShelfState → Type 0
 Read file source old new = GetsWith old new (Source file source) Same Same Same
 
 -- a fact of the bytes that are held, from the bytes that were read
-held_source : (file source : List ℕ) (held : Files) (P : List ℕ → Type 0) → files.get held file ≡ Some source → P source → Held held file P
+pub held_source : (file source : List ℕ) (held : Files) (P : List ℕ → Type 0) → files.get held file ≡ Some source → P source → Held held file P
 held_source file source held P e p = subst (λ (o : Option (List ℕ)). IsSomeAnd o P) (sym e) p
 
 -- where the contents are told, what holds of the contents that they might be holds of them
@@ -30,7 +30,7 @@ abbrev shelf_of : Option Files → ℕ → ℕ → ℕ → ℕ → ShelfState
 shelf_of held reads puts misses longs = record { held = held; read_faults = reads; put_faults = puts; misses = misses; longs = longs }
 
 -- a shelf whose contents and counts are as they were is as it was
-same_shelf : (old new : ShelfState) → new.held ≡ old.held → new.read_faults ≡ old.read_faults → new.put_faults ≡ old.put_faults
+pub same_shelf : (old new : ShelfState) → new.held ≡ old.held → new.read_faults ≡ old.read_faults → new.put_faults ≡ old.put_faults
     → new.misses ≡ old.misses → new.longs ≡ old.longs → new ≡ old
 same_shelf old new held reads puts misses longs =
     ap (λ h. shelf_of h new.read_faults new.put_faults new.misses new.longs) held
@@ -40,7 +40,7 @@ same_shelf old new held reads puts misses longs =
     ∙ ap (λ n. shelf_of old.held old.read_faults old.put_faults old.misses n) longs
 
 -- reading changed no count
-kept : (file source : List ℕ) (old new : ShelfState) → Read file source old new → Unchanged old new Same Same Same
+pub kept : (file source : List ℕ) (old new : ShelfState) → Read file source old new → Unchanged old new Same Same Same
 kept file source old new r = record { contents = r.contents; read_faults = r.read_faults; put_faults = r.put_faults; misses = r.misses; longs = r.longs }
 
 -- the source was not read
@@ -58,6 +58,8 @@ file_not_got file old new fault.NoMemory g = record { contents = g.contents; rea
 file_not_got file old new (fault.Refused cause) g = absurd g
 file_not_got file old new (fault.NotBuilt func index) g = absurd g
 file_not_got file old new (fault.SameModule earlier) g = absurd g
+file_not_got file old new (fault.Class cause) g = absurd g
+file_not_got file old new (fault.Code cause) g = absurd g
 
 -- the source was read, and is built to no class
 file_not_built : (file source : List ℕ) (old new : ShelfState) (fault : Fault) → Read file source old new → HasFault source fault → FileFails file old fault new
@@ -73,6 +75,8 @@ file_not_built file source old new fault.Absent r b = absurd b
 file_not_built file source old new fault.Longer r b = absurd b
 file_not_built file source old new fault.ReadFailed r b = absurd b
 file_not_built file source old new (fault.SameModule earlier) r b = absurd b
+file_not_built file source old new (fault.Class cause) r b = absurd b
+file_not_built file source old new (fault.Code cause) r b = absurd b
 file_not_built file source old new fault.NoMemory r b = kept file source old new r
 
 -- the source was read, and what it is built to is what the file is built to

@@ -1,4 +1,4 @@
--- What the program answers to each status, what it says, and what stands afterwards.
+-- What `compile` answers to each status, what it says, and what stands afterwards.
 use Rattle.std.specs.Prelude.{◌≡◌, ◌≢◌, true, ℕ, ◌+◌, ◌-◌, ◌^◌, ◌<◌, ◌≤◌, ◌⊎◌, List, [], ◌∷◌, ◌++◌, length, map, take, codes, Option, None, Some, if◌then◌else◌, IfSome, IsSomeAnd}
 use Rattle.std.specs.Fmt.{decimal}
 use Rattle.std.specs.List.{AllByRecursion, AllZip, list_any, position_or_len}
@@ -7,6 +7,10 @@ use Rattle.std.specs.Str.{bytes_eq}
 use Rattle.std.specs.FinMap as files
 use Rattle.beam_code.specs.declared.module.Module.{Module}
 use Rattle.beam_code.specs.Places.{instruction_text}
+use Rattle.class_file.specs.declared.fault.ClassFault.{ClassFault}
+use Rattle.class_file.specs.Messages.{message as class_message}
+use Rattle.class_verifier.specs.declared.fault.VerifyFault.{VerifyFault}
+use Rattle.class_verifier.specs.Messages.{message as code_message}
 use Rattle.ej_outside.specs.Counts.{Same, Rises}
 use Rattle.ej_outside.specs.Shelf.{Files, ShelfState, MayReplace}
 use Rattle.ej_outside.specs.Sink.{SinkState}
@@ -19,7 +23,7 @@ use Rattle.erjang_top.specs.Mangle.{mangle}
 use Rattle.erjang_top.specs.Sources.{IsSource, IsNotBuilt}
 use Rattle.erjang_top.specs.Words.{Compile}
 
--- the most bytes that a source may have
+-- the most bytes that a file may have
 abbrev pub longest_file : ℕ
 longest_file = 67108864
 
@@ -39,6 +43,16 @@ pub data Refusal : Type 0 where
   NotBuilt : (func index : ℕ) → Refusal
   -- its module has the name of that of an earlier file, which stands at this place from 1
   SameModule : ℕ → Refusal
+  -- they are those of no class of the profile
+  OfClass : ClassFault → Refusal
+  -- they are those of a class that is not verified
+  OfCode : VerifyFault → Refusal
+
+-- the cause is one that a source may be refused for
+abbrev pub IsOfSource : Refusal → Type 0
+IsOfSource (OfClass fault) = ⊥
+IsOfSource (OfCode fault) = ⊥
+IsOfSource _ = Unit {0}
 
 -- a file that is refused, and why
 pub record Blame : Type 0 where
@@ -63,6 +77,8 @@ IsBad held file Longer = Held held file (λ bytes. longest_file < length bytes)
 IsBad held file (OfSource fault) = Held held file (λ bytes. (length bytes ≤ longest_file) × HasFault true bytes fault)
 IsBad held file (NotBuilt func index) = Held held file (λ bytes. (length bytes ≤ longest_file) × IsNotBuilt bytes func index)
 IsBad held file (SameModule earlier) = ⊥
+IsBad held file (OfClass fault) = ⊥
+IsBad held file (OfCode fault) = ⊥
 
 -- this is the first of the files that is refused by itself
 abbrev pub StopsAt : Files → List (List ℕ) → Blame → Type 0
@@ -97,6 +113,8 @@ cause_text Longer = codes ": longer than 67108864 bytes"
 cause_text (OfSource fault) = codes ": " ++ source_message fault
 cause_text (NotBuilt func index) = codes ": " ++ instruction_text func index (codes ": not built")
 cause_text (SameModule earlier) = codes ": same module as file " ++ decimal earlier
+cause_text (OfClass fault) = codes ": " ++ class_message fault
+cause_text (OfCode fault) = codes ": " ++ code_message fault
 
 -- a line about a file, with its newline
 abbrev pub line : List ℕ → List ℕ → List ℕ
@@ -136,6 +154,8 @@ Counted Longer old new = Unchanged old new Same Same Rises
 Counted (OfSource fault) old new = Unchanged old new Same Same Same
 Counted (NotBuilt func index) old new = Unchanged old new Same Same Same
 Counted (SameModule earlier) old new = Unchanged old new Same Same Same
+Counted (OfClass fault) old new = Unchanged old new Same Same Same
+Counted (OfCode fault) old new = Unchanged old new Same Same Same
 
 -- the file is one of the command's, and where the contents are told each before it is the source of a module
 pub record Reached (held : Option Files) (w : Compile) (file : List ℕ) : Type 0 where
@@ -146,6 +166,7 @@ pub record Reached (held : Option Files) (w : Compile) (file : List ℕ) : Type 
 
 -- the command is refused for that file
 pub record Refused (w : Compile) (blame : Blame) (old new : ShelfState) : Type 0 where
+  pub kind : IsOfSource blame.cause
   pub reached : Reached old.held w blame.file
   pub told : IfSome old.held (λ held. First held w (Some blame))
   -- and for nothing else
@@ -239,7 +260,3 @@ pub record Answers (w : Compile) (status : ℕ) (old new : ShelfState) (err err'
   pub complete : (held : Files) (first : Option Blame) → old.held ≡ Some held → First held w first
       → Quiet old.read_faults new.read_faults → Quiet old.put_faults new.put_faults → Quiet err.faults err'.faults
       → (status ≡ status_of first) ⊎ (status ≡ 5)
-
--- the answer to other words
-abbrev pub Usage : ℕ → ShelfState → ShelfState → SinkState → SinkState → Type 0
-Usage status old new err err' = Says 2 usage_line status err err' × (new ≡ old)

@@ -2,5 +2,8 @@ pub mod Mangle
 pub mod Sources
 pub mod Words
 pub mod Answers
+pub mod Verify
+pub mod Program
 pub mod Work
+pub mod VerifyWork
 pub mod first_path

@@ -1,4 +1,4 @@
--- What the parts of the top call owe: the words, the work and the report.
+-- What the parts of `compile` owe: the words, the work and the report.
 use Rattle.std.specs.Prelude.{◌≡◌, ℕ, true, ◌<◌, ◌≤◌, ◌⊎◌, List, ◌∷◌, ◌++◌, length, map, codes, None, Some, option_map, Result, Ok, Err, IfSome, IsSomeAnd, String, string_bytes}
 use Rattle.std.specs.List.{AllZip}
 use Rattle.std.specs.FinMap as files
@@ -16,25 +16,31 @@ use Rattle.erjang_top.specs.declared.fault.Fault.TheVariants as fault
 use Rattle.erjang_top.specs.declared.fault.Stopped.{Stopped}
 use Rattle.erjang_top.specs.declared.fault.Stopped.TheVariants as stopped
 use Rattle.erjang_top.specs.declared.compile.ReadyClass.{ReadyClass}
+use Rattle.erjang_top.specs.declared.words.Command.TheVariants as commands
+use Rattle.erjang_top.specs.declared.words.Command as words
 use Rattle.erjang_top.specs.declared.words.CompileWords.{CompileWords}
-use Rattle.erjang_top.specs.Answers.{Refusal, Absent, Longer, OfSource, NotBuilt, SameModule, Blame, Held, IsBad, Reached, Counted, Refused, ReadFailed, Unchanged, Put, put_each, Compiled, PutFailed, Told, SameCounts, TookAll, TookFront, Says, cause_text, line, message, class_file, longest_file}
+use Rattle.erjang_top.specs.Answers.{Refusal, Absent, Longer, OfSource, NotBuilt, SameModule, OfClass, OfCode, Blame, Held, IsBad, Reached, Counted, Refused, ReadFailed, Unchanged, Put, put_each, Compiled, PutFailed, Told, SameCounts, TookAll, TookFront, Says, cause_text, line, message, class_file, longest_file}
 use Rattle.erjang_top.specs.first_path.ClassProfile.{ClassOf}
 use Rattle.erjang_top.specs.first_path.Emitted.{Emitted}
 use Rattle.erjang_top.specs.first_path.ModuleClass.{class_of}
 use Rattle.erjang_top.specs.first_path.Accepted.{Accepted}
 use Rattle.erjang_top.specs.Sources.{IsSource, IsNotBuilt}
-use Rattle.erjang_top.specs.Words.{Compile}
+use Rattle.erjang_top.specs.Words.{Compile, Command, ToCompile, ToVerify}
 
 -- the words that a command's own hold
 abbrev pub seen_words : CompileWords → Compile
 seen_words words = record { outdir = words.outdir.now; files = map string_bytes words.files.now }
+
+abbrev pub seen_command : words.Command → Command
+seen_command (commands.Compile words) = ToCompile (seen_words words)
+seen_command (commands.Verify files) = ToVerify (map string_bytes files.now)
 
 -- a fault of a source, as one of the work
 abbrev pub fault_of_source : SourceFault → Fault
 fault_of_source source_fault.NoMemory = fault.NoMemory
 fault_of_source source = fault.Refused source
 
--- the first fault of a source that is not read
+-- the first fault of a file that is not read
 abbrev pub GetsFault : List ℕ → ShelfState → Fault → ShelfState → Type 0
 GetsFault file old fault.Absent new = GetsWith old new (λ held. files.get held file ≡ None) Same Rises Same
 GetsFault file old fault.Longer new = GetsWith old new (λ held. IsSomeAnd (files.get held file) (λ bytes. longest_file < length bytes)) Same Same Rises
@@ -42,12 +48,14 @@ GetsFault file old (fault.Refused _) new = ⊥
 GetsFault file old (fault.NotBuilt _ _) new = ⊥
 GetsFault file old fault.ReadFailed new = GetsWith old new (λ held. Unit {0}) Rises Same Same
 GetsFault file old (fault.SameModule _) new = ⊥
+GetsFault file old (fault.Class _) new = ⊥
+GetsFault file old (fault.Code _) new = ⊥
 GetsFault file old fault.NoMemory new = GetsWith old new (λ held. Unit {0}) Same Same Same
 
--- a source that is read: its bytes, of which there are not too many, or the first of its faults
-abbrev pub GetsSource : {A : Type 0} → List ℕ → ShelfState → Result (Vec ℕ A) Fault → ShelfState → Type 0
-GetsSource file old (Ok v) new = GetsWith old new (λ held. (files.get held file ≡ Some v.items) × (length v.items ≤ longest_file)) Same Same Same
-GetsSource file old (Err fault) new = GetsFault file old fault new
+-- a file that is read: its bytes, of which there are not too many, or the first of its faults
+abbrev pub GetsFile : {A : Type 0} → List ℕ → ShelfState → Result (Vec ℕ A) Fault → ShelfState → Type 0
+GetsFile file old (Ok v) new = GetsWith old new (λ held. (files.get held file ≡ Some v.items) × (length v.items ≤ longest_file)) Same Same Same
+GetsFile file old (Err fault) new = GetsFault file old fault new
 
 -- the class of a source, with its module's name and the name of its file
 pub record IsClassOf (outdir source : List ℕ) (class : ReadyClass) : Type 0 where
@@ -67,6 +75,8 @@ HasFault source fault.Absent = ⊥
 HasFault source fault.Longer = ⊥
 HasFault source fault.ReadFailed = ⊥
 HasFault source (fault.SameModule _) = ⊥
+HasFault source (fault.Class _) = ⊥
+HasFault source (fault.Code _) = ⊥
 HasFault source fault.NoMemory = Unit {0}
 
 -- the module whose source the bytes are, which the first path compiles, or why there is none
@@ -92,6 +102,8 @@ FileFails file old (fault.Refused cause) new = FileIsBad file (OfSource cause) o
 FileFails file old (fault.NotBuilt func index) new = FileIsBad file (NotBuilt func index) old new
 FileFails file old fault.ReadFailed new = Unchanged old new Rises Same Same
 FileFails file old (fault.SameModule _) new = ⊥
+FileFails file old (fault.Class _) new = ⊥
+FileFails file old (fault.Code _) new = ⊥
 FileFails file old fault.NoMemory new = Unchanged old new Same Same Same
 
 -- the class is that of the bytes that are held
@@ -111,7 +123,7 @@ pub record StopsWith (w : Compile) (file : List ℕ) (fault : Fault) (old new : 
 -- why there are no classes
 abbrev pub AllStop : Compile → ShelfState → Stopped → ShelfState → Type 0
 AllStop w old (stopped.At file fault) new = StopsWith w file.now fault old new
-AllStop w old stopped.PutFailed new = ⊥
+AllStop w old stopped.WriteFailed new = ⊥
 AllStop w old stopped.NoMemory new = Unchanged old new Same Same Same
 
 -- what all files are built to: their classes, or why there are none
@@ -149,6 +161,8 @@ WorkStops w file old fault.Longer new = Refused w (record { file = file; cause =
 WorkStops w file old (fault.Refused cause) new = Refused w (record { file = file; cause = OfSource cause }) old new
 WorkStops w file old (fault.NotBuilt func index) new = Refused w (record { file = file; cause = NotBuilt func index }) old new
 WorkStops w file old (fault.SameModule earlier) new = Refused w (record { file = file; cause = SameModule earlier }) old new
+WorkStops w file old (fault.Class _) new = ⊥
+WorkStops w file old (fault.Code _) new = ⊥
 WorkStops w file old fault.ReadFailed new = ReadFailed w file old new
 WorkStops w file old fault.NoMemory new = Unchanged old new Same Same Same
 
@@ -156,7 +170,7 @@ WorkStops w file old fault.NoMemory new = Unchanged old new Same Same Same
 abbrev pub Works : Compile → ShelfState → Result (Unit {0}) Stopped → ShelfState → Type 0
 Works w old (Ok done) new = Told old.held new.held (Compiled w) × SameCounts old new
 Works w old (Err (stopped.At file fault)) new = WorkStops w file.now old fault new
-Works w old (Err stopped.PutFailed) new = PutFailed w old new
+Works w old (Err stopped.WriteFailed) new = PutFailed w old new
 Works w old (Err stopped.NoMemory) new = Unchanged old new Same Same Same
 
 -- a sink took the whole text, or a front of it and then failed
@@ -181,13 +195,15 @@ ReportsAt file fault.ReadFailed status old new = Says 3 (line file (codes ": rea
 ReportsAt file (fault.Refused cause) status old new = RefusesFor (record { file = file; cause = OfSource cause }) status old new
 ReportsAt file (fault.NotBuilt func index) status old new = RefusesFor (record { file = file; cause = NotBuilt func index }) status old new
 ReportsAt file (fault.SameModule earlier) status old new = RefusesFor (record { file = file; cause = SameModule earlier }) status old new
+ReportsAt file (fault.Class cause) status old new = RefusesFor (record { file = file; cause = OfClass cause }) status old new
+ReportsAt file (fault.Code cause) status old new = RefusesFor (record { file = file; cause = OfCode cause }) status old new
 ReportsAt file fault.NoMemory status old new = (status ≡ 5) × (new ≡ old)
 
 -- what is said of an outcome, and its status
 abbrev pub Reports : Result (Unit {0}) Stopped → ℕ → SinkState → SinkState → Type 0
 Reports (Ok done) status old new = (status ≡ 0) × (new ≡ old)
 Reports (Err (stopped.At file fault)) status old new = ReportsAt file.now fault status old new
-Reports (Err stopped.PutFailed) status old new = (status ≡ 4) × (new ≡ old)
+Reports (Err stopped.WriteFailed) status old new = (status ≡ 4) × (new ≡ old)
 Reports (Err stopped.NoMemory) status old new = (status ≡ 5) × (new ≡ old)
 
 -- a file whose module has the name of an earlier one's

@@ -3,20 +3,18 @@
 ghost use Rattle.std.specs.Prelude.{◌≡◌, [], ◌++◌, length, map, codes, IfOk, string_bytes};
 ghost use Rattle.std.specs.Option.{option_map};
 ghost use Rattle.erjang_top.specs.Answers.{class_file, first_twice};
-ghost use Rattle.erjang_top.specs.Work.{GetsSource, Builds, BuildsFile, BuildsAll, PutsAll, Works, modules_of, puts_of, seen_words, twice_at};
+ghost use Rattle.erjang_top.specs.Work.{Builds, BuildsFile, BuildsAll, PutsAll, Works, modules_of, puts_of, seen_words, twice_at};
 
 use crate::fault::{Fault, Stopped};
 use crate::first_path::emit::emit;
 use crate::mangle::mangle;
+use crate::shelf_file::get_file;
 use crate::source::read_source;
 use crate::words::CompileWords;
-use ej_outside::{Failed, Got, Shelf, ShelfFault};
+use ej_outside::{Failed, Shelf};
 use ej_term::Text;
 use indexmap::IndexSet;
 use std::alloc::{AllocError, Global};
-
-/// The most bytes that a source may have.
-const LONGEST_FILE: u64 = 67108864;
 
 /// A class that is ready to be put: its module's name, the name of its file, and its bytes.
 #[derive(Drop)]
@@ -24,19 +22,6 @@ struct ReadyClass {
     module: Text,
     path: String,
     bytes: Vec<u8>,
-}
-
-/// The bytes of a source.
-fn get_source<S: Shelf>(alloc: Global, shelf: &mut S, file: &str) -> Result<Vec<u8>, Fault>
-    ensures { GetsSource file.now (S.state shelf.old) result (S.state shelf.new) }
-{
-    match shelf.get(alloc, file, LONGEST_FILE) {
-        Ok(Got::Bytes(bytes)) => Ok(bytes),
-        Ok(Got::Absent) => Err(Fault::Absent),
-        Ok(Got::Longer) => Err(Fault::Longer),
-        Err(ShelfFault::Failed) => Err(Fault::ReadFailed),
-        Err(ShelfFault::NoMemory) => Err(Fault::NoMemory),
-    }
 }
 
 /// The path of a class file in a folder.
@@ -81,7 +66,7 @@ fn build_file<S: Shelf>(
 ) -> Result<ReadyClass, Fault>
     ensures { BuildsFile outdir.now file.now (S.state shelf.old) result (S.state shelf.new) }
 {
-    let source = get_source(alloc, shelf, file)?;
+    let source = get_file(alloc, shelf, file)?;
     build(alloc, outdir, source.as_slice())
 }
 
@@ -151,6 +136,6 @@ pub(crate) fn compile<'a, S: Shelf>(
     }
     match put_all(shelf, classes.as_slice()) {
         Ok(()) => Ok(()),
-        Err(Failed) => Err(Stopped::PutFailed),
+        Err(Failed) => Err(Stopped::WriteFailed),
     }
 }

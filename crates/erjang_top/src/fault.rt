@@ -1,16 +1,18 @@
-//! Why files have no classes.
+//! Why a command is not done.
 
+use class_file::ClassFault;
+use class_verifier::VerifyFault;
 use erjang_compile::SourceFault;
 use std::alloc::AllocError;
 
-/// Why a file has no class.
+/// Why a source has no class, or a class is not verified.
 #[derive(Drop)]
 pub(crate) enum Fault {
     /// There is no file of that name.
     Absent,
     /// There is one, with too many bytes.
     Longer,
-    /// The source could not be read.
+    /// The file could not be read.
     ReadFailed,
     /// The source is refused.
     Refused(SourceFault),
@@ -18,6 +20,10 @@ pub(crate) enum Fault {
     NotBuilt { func: usize, index: usize },
     /// Its module has the name of an earlier file's, which stands at that place from 1.
     SameModule { earlier: usize },
+    /// The bytes are no class of the profile.
+    Class(ClassFault),
+    /// The class is not verified.
+    Code(VerifyFault),
     /// Memory was wanting.
     NoMemory,
 }
@@ -33,14 +39,14 @@ impl From<AllocError> for Fault {
     }
 }
 
-/// Why not all classes were put.
+/// Why a command stopped.
 #[derive(Drop)]
 pub(crate) enum Stopped<'a> {
-    /// The file of that name has none; no class was put.
+    /// The file of that name is refused, or could not be read, or memory was wanting for it.
     At(&'a str, Fault),
-    /// A class could not be put.
-    PutFailed,
-    /// Memory was wanting; no class was put.
+    /// A class could not be put, or a line not be written.
+    WriteFailed,
+    /// Memory was wanting.
     NoMemory,
 }
 
@@ -65,6 +71,34 @@ impl From<SourceFault> for Fault {
         match source {
             SourceFault::NoMemory => Fault::NoMemory,
             refused => Fault::Refused(refused),
+        }
+    }
+}
+
+impl From<ClassFault> for Fault {
+    ghost use Rattle.std.specs.Prelude.{◌≡◌};
+    ghost use Rattle.erjang_top.specs.VerifyWork.{fault_of_class};
+
+    ghost from_gives = { λ class fault. fault ≡ fault_of_class class };
+
+    fn from(class: ClassFault) -> Fault {
+        match class {
+            ClassFault::NoMemory => Fault::NoMemory,
+            refused => Fault::Class(refused),
+        }
+    }
+}
+
+impl From<VerifyFault> for Fault {
+    ghost use Rattle.std.specs.Prelude.{◌≡◌};
+    ghost use Rattle.erjang_top.specs.VerifyWork.{fault_of_code};
+
+    ghost from_gives = { λ code fault. fault ≡ fault_of_code code };
+
+    fn from(code: VerifyFault) -> Fault {
+        match code {
+            VerifyFault::NoMemory => Fault::NoMemory,
+            refused => Fault::Code(refused),
         }
     }
 }

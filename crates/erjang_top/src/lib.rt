@@ -1,12 +1,15 @@
 //! The program: its words, what it does with files, and what it answers.
 #![tactic(auto)]
 
+mod classes;
 mod compile;
 mod fault;
 mod first_path;
+mod lines;
 mod mangle;
 mod program;
 mod report;
+mod shelf_file;
 mod source;
 mod words;
 

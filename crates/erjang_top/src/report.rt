@@ -2,53 +2,34 @@
 
 ghost use Rattle.std.specs.Prelude.{◌≡◌, ◌∷◌, [], ◌++◌, codes, IfOk, string_bytes};
 ghost use Rattle.erjang_compile.specs.Messages.{message};
-ghost use Rattle.erjang_top.specs.Answers.{NotBuilt, SameModule, Says, cause_text, usage_line};
-ghost use Rattle.erjang_top.specs.Work.{WritesAll, SaysRefusal, Reports, ReportsAt};
+ghost use Rattle.erjang_top.specs.Answers.{NotBuilt, SameModule, OfClass, OfCode, Says, cause_text, usage_line};
+ghost use Rattle.erjang_top.specs.Work.{SaysRefusal, Reports, ReportsAt};
 
 use crate::fault::{Fault, Stopped};
+use crate::lines::{write_all, write_line};
+use class_file::ClassFault;
+use class_verifier::VerifyFault;
 use ej_outside::{Failed, Sink};
 use erjang_compile::SourceFault;
 use std::alloc::{AllocError, Global};
 
-/// The classes stand.
+/// All is done.
 const DONE: u8 = 0;
 
-/// A source is refused.
+/// A file is refused.
 const REFUSED: u8 = 1;
 
 /// The words are not those of a command.
 const USAGE: u8 = 2;
 
-/// A source could not be read.
+/// A file could not be read.
 const READ_FAULT: u8 = 3;
 
-/// A message was not taken whole, or a class was not put.
+/// A message or a line was not taken whole, or a class was not put.
 const WRITE_FAULT: u8 = 4;
 
 /// Memory was wanting.
 const NO_MEMORY: u8 = 5;
-
-/// Writes a whole piece, however many writes that takes.
-fn write_all<E: Sink>(err: &mut E, piece: &[u8]) -> Result<(), Failed>
-    ensures { WritesAll (E.state err.old) piece.now result (E.state err.new) }
-{
-    let mut rest = piece;
-    while !rest.is_empty() {
-        match err.write(rest) {
-            Ok(count) => rest = rest.split_at(count).1,
-            Err(fault) => return Err(fault),
-        }
-    }
-    Ok(())
-}
-
-/// Writes a file's name and what is said of it.
-fn write_line<E: Sink>(err: &mut E, file: &str, said: &str) -> Result<(), Failed>
-    ensures { WritesAll (E.state err.old) (file.now ++ said.now) result (E.state err.new) }
-{
-    write_all(err, file.as_bytes())?;
-    write_all(err, said.as_bytes())
-}
 
 /// Says something of a file: the status, or that of a write fault.
 fn say<E: Sink>(err: &mut E, status: u8, file: &str, said: &str) -> u8
@@ -93,6 +74,20 @@ fn same_module(alloc: Global, earlier: usize) -> Result<String, AllocError>
     format!(in alloc; ": same module as file {earlier}\n")
 }
 
+/// What is said of bytes that are no class of the profile, behind their file's name, with the newline.
+fn no_class(alloc: Global, fault: ClassFault) -> Result<String, AllocError>
+    ensures { IfOk result (λ said. string_bytes said ≡ cause_text (OfClass fault) ++ 10 ∷ []) }
+{
+    format!(in alloc; ": {fault}\n")
+}
+
+/// What is said of a class that is not verified, behind its file's name, with the newline.
+fn unverified(alloc: Global, fault: VerifyFault) -> Result<String, AllocError>
+    ensures { IfOk result (λ said. string_bytes said ≡ cause_text (OfCode fault) ++ 10 ∷ []) }
+{
+    format!(in alloc; ": {fault}\n")
+}
+
 /// Says a line that took memory about a refused file.
 fn refuse<E: Sink>(err: &mut E, file: &str, said: Result<String, AllocError>) -> u8
     ensures { SaysRefusal file.now said result (E.state err.old) (E.state err.new) }
@@ -114,6 +109,8 @@ fn report_at<E: Sink>(alloc: Global, err: &mut E, file: &str, fault: Fault) -> u
         Fault::Refused(fault) => refuse(err, file, refusal(alloc, &fault)),
         Fault::NotBuilt { func, index } => refuse(err, file, not_built(alloc, func, index)),
         Fault::SameModule { earlier } => refuse(err, file, same_module(alloc, earlier)),
+        Fault::Class(fault) => refuse(err, file, no_class(alloc, fault)),
+        Fault::Code(fault) => refuse(err, file, unverified(alloc, fault)),
         Fault::NoMemory => NO_MEMORY,
     }
 }
@@ -125,7 +122,7 @@ pub(crate) fn report<E: Sink>(alloc: Global, err: &mut E, outcome: Result<(), St
     match outcome {
         Ok(()) => DONE,
         Err(Stopped::At(file, fault)) => report_at(alloc, err, file, fault),
-        Err(Stopped::PutFailed) => WRITE_FAULT,
+        Err(Stopped::WriteFailed) => WRITE_FAULT,
         Err(Stopped::NoMemory) => NO_MEMORY,
     }
 }

@@ -1,7 +1,7 @@
 use Rattle.erjang_top.proofs.Said.{took_more, took_till, rest_is}
 use Rattle.std.proofs.Common.{◌≡◌, ℕ, ◌<◌, ◌++◌, ◌∙◌, false, nat_eq, arith, length, sym, take}
 use Rattle.std.proofs.lemmas.Bool.Decides.{nat_tests}
-use Rattle.erjang_top.proofs.report.write_all.Goals as goal
+use Rattle.erjang_top.proofs.lines.write_all.Goals as goal
 
 not_empty : (n : ℕ) → nat_eq n 0 ≡ false → 0 < n
 not_empty n e = grind (arith, nat_tests)

@@ -1,5 +1,5 @@
 use Rattle.erjang_top.proofs.Said.{writes_rest}
-use Rattle.erjang_top.proofs.report.write_line.Goals as goal
+use Rattle.erjang_top.proofs.lines.write_line.Goals as goal
 
 pub returns : goal.returns
 returns g c =
