@@ -12,13 +12,9 @@ use thiserror::Error;
 #[derive(Clone, Copy, Debug, PartialEq, Eq, Error)]
 pub enum ClassFault {
     /// The bytes end there, or break the format.
-    NotClass {
-        offset: usize,
-    },
+    NotClass { offset: usize },
     /// The profile forbids what stands there.
-    OutsideProfile {
-        offset: usize,
-    },
+    OutsideProfile { offset: usize },
     /// Memory was wanting.
     NoMemory,
 }

@@ -1,15 +1,15 @@
 -- The answer to `verify`, from what the work left and what the report said.
-use Rattle.std.proofs.Common.{◌≡◌, ℕ, ◌⊎◌, inl, inr, List, ◌++◌, [], ◌∷◌, codes, Option, None, Some, Result, Ok, Err, IfSome, refl, sym, ap, subst, ◌∙◌, arith}
+use Rattle.std.proofs.Common.{◌≡◌, ℕ, ◌⊎◌, inl, inr, List, ◌∷◌, codes, Option, None, Some, Result, Ok, Err, IfSome, refl, sym, ap, subst, ◌∙◌, arith}
 use Rattle.std.specs.List.{AllByRecursion}
-use Rattle.ej_outside.specs.Counts.{Same, Rises}
+use Rattle.ej_outside.specs.Counts.{Same}
 use Rattle.ej_outside.specs.Shelf.{Files, ShelfState}
 use Rattle.ej_outside.specs.Sink.{SinkState}
 use Rattle.erjang_top.specs.declared.fault.Fault.{Fault}
 use Rattle.erjang_top.specs.declared.fault.Fault.TheVariants as fault
 use Rattle.erjang_top.specs.declared.fault.Stopped.{Stopped}
 use Rattle.erjang_top.specs.declared.fault.Stopped.TheVariants as stopped
-use Rattle.erjang_top.specs.Answers.{Refusal, Absent, Longer, OfClass, OfCode, Blame, Counted, Unchanged, TookAll, TookFront, Quiet, status_of, line, message}
-use Rattle.erjang_top.specs.Verify.{IsGoodClass, FirstClass, RefusedClass, UnreadClass, Unwritten, NoMemoryAfter, AnswersVerify, ok_lines}
+use Rattle.erjang_top.specs.Answers.{Refusal, Absent, Longer, OfClass, OfCode, Blame, Unchanged, TookAll, TookFront, Quiet, status_of, line, message}
+use Rattle.erjang_top.specs.Verify.{IsGoodClass, FirstClass, RefusedClass, UnreadClass, Unwritten, NoMemoryAfter, AnswersVerify}
 use Rattle.erjang_top.specs.VerifyWork.{VerifyStops, VerifiesAll}
 use Rattle.erjang_top.specs.Work.{RefusesFor, ReportsAt, Reports}
 use Rattle.erjang_top.proofs.Answered.{not_quiet}

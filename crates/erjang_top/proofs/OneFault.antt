@@ -1,12 +1,11 @@
 -- A class is verified, or one thing is wrong with it first, and not both.
-use Rattle.std.proofs.Common.{◌≡◌, ℕ, suc, ◌⊎◌, inl, inr, List, [], ◌∷◌, Option, None, Some, MatchOption, sym, ap, ap₂, subst, ◌∙◌}
+use Rattle.std.proofs.Common.{◌≡◌, ℕ, suc, inl, inr, List, [], ◌∷◌, Option, None, Some, MatchOption, sym, ap, ap₂, ◌∙◌}
 use Rattle.std.specs.List.{AllByRecursion}
 use Rattle.jvm_code.specs.declared.class.Class.{Class}
-use Rattle.jvm_code.specs.declared.class.Constant.{Constant}
 use Rattle.jvm_code.specs.declared.class.Method.{Method}
 use Rattle.jvm_code.specs.declared.types.Frame.{Frame}
 use Rattle.jvm_code.specs.StackMaps.{AreFrames}
-use Rattle.jvm_code.specs.Verification.{HasFrames, NoFrames, CodeFault, code_fault, IsSoundMethod, IsVerified, Fault, BadMap, InCode, HasCodeFault, IsFaultOf, FirstOf, FirstFault}
+use Rattle.jvm_code.specs.Verification.{HasFrames, CodeFault, code_fault, IsSoundMethod, IsVerified, Fault, BadMap, InCode, HasCodeFault, IsFaultOf, FirstOf, FirstFault}
 use Rattle.stack_maps.proofs.FramesLaw.{one_list}
 
 -- a method has one list of frames at most

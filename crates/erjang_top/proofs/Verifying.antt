@@ -1,5 +1,5 @@
 -- The work of `verify`: from bytes that were read to a file that is verified, and over all files.
-use Rattle.std.proofs.Common.{◌≡◌, ℕ, ◌≤◌, ◌≢◌, inl, inr, List, [], ◌∷◌, ◌++◌, length, Option, None, Some, Result, Ok, Err, IfSome, IsErrAnd, refl, sym, ap, subst, ◌∙◌, append-nil, append_assoc}
+use Rattle.std.proofs.Common.{◌≡◌, ℕ, ◌≤◌, ◌≢◌, inl, inr, List, [], ◌∷◌, ◌++◌, length, Option, None, Some, Result, Ok, Err, IfSome, IsErrAnd, refl, sym, ap, subst, ◌∙◌, append-nil}
 use Rattle.std.proofs.lemmas.Grind.{flat_map-append}
 use Rattle.std.specs.List.{AllByRecursion}
 use Rattle.class_file.specs.declared.fault.ClassFault.{ClassFault}
@@ -17,8 +17,8 @@ use Rattle.erjang_top.specs.declared.fault.Fault.TheVariants as fault
 use Rattle.erjang_top.specs.declared.fault.Stopped.{Stopped}
 use Rattle.erjang_top.specs.declared.fault.Stopped.TheVariants as stopped
 use Rattle.erjang_top.specs.Answers.{Refusal, Absent, Longer, OfClass, OfCode, Blame, Counted, TookAll, TookFront, longest_file}
-use Rattle.erjang_top.specs.Verify.{IsVerifiedClass, IsGoodClass, IsNoClass, IsFirstFault, IsUnverified, IsBadClass, StopsAtClass, FirstClass, ReachedClass, RefusedClass, UnreadClass, Unwritten, NoMemoryAfter, ok_line, ok_lines}
-use Rattle.erjang_top.specs.VerifyWork.{fault_of_class, fault_of_code, HasClassFault, VerifiesBytes, ClassIsBad, ClassFails, VerifiesFile, NextStops, VerifiesNext, VerifyStops, VerifyFails, VerifiesAll}
+use Rattle.erjang_top.specs.Verify.{IsVerifiedClass, IsGoodClass, IsNoClass, IsUnverified, IsBadClass, StopsAtClass, FirstClass, RefusedClass, Unwritten, ok_line, ok_lines}
+use Rattle.erjang_top.specs.VerifyWork.{fault_of_class, fault_of_code, HasClassFault, VerifiesBytes, ClassIsBad, ClassFails, VerifiesFile, NextStops, VerifiesNext, VerifyStops, VerifyFails}
 use Rattle.erjang_top.specs.Work.{GetsFault}
 use Rattle.erjang_top.proofs.OneClass.{one_first_class}
 use Rattle.erjang_top.proofs.Said.{took_both, took_second_front}

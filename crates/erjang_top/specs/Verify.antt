@@ -14,7 +14,7 @@ use Rattle.jvm_code.specs.Fault as fault
 use Rattle.jvm_code.specs.ReadClass.{ClassOf, read_class}
 use Rattle.jvm_code.specs.Verification as verification
 use Rattle.jvm_code.specs.Verification.{FirstFault, IsVerified}
-use Rattle.erjang_top.specs.Answers.{Refusal, Absent, Longer, OfSource, NotBuilt, SameModule, OfClass, OfCode, Blame, Held, Counted, Unchanged, Quiet, TookAll, TookFront, line, message, longest_file, status_of}
+use Rattle.erjang_top.specs.Answers.{Refusal, Absent, Longer, OfClass, OfCode, Blame, Held, Counted, Unchanged, Quiet, TookAll, TookFront, line, message, longest_file, status_of}
 
 -- ---- which files are verified
 

@@ -1,5 +1,5 @@
 -- What the parts of `verify` owe.
-use Rattle.std.specs.Prelude.{◌≡◌, ℕ, List, ◌++◌, Result, Ok, Err, IfSome}
+use Rattle.std.specs.Prelude.{◌≡◌, ℕ, List, Result, Ok, Err, IfSome}
 use Rattle.std.specs.List.{AllByRecursion}
 use Rattle.class_file.specs.declared.fault.ClassFault.{ClassFault}
 use Rattle.class_file.specs.declared.fault.ClassFault.TheVariants as class_fault
