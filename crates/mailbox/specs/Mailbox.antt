@@ -1,4 +1,4 @@
--- A mailbox as the list of its messages, the oldest first, and a save place in it (Erlang Reference Manual, "Receive"), and what each call does to it.
+-- A mailbox as the list of its messages and a save place (Erlang Reference Manual, "Receive"), and what each call does to it.
 use Rattle.std.specs.Prelude.{ℕ, suc, ◌+◌, nat_lt, if◌then◌else◌, List, [], ◌∷◌, ◌++◌, length, take, drop, slice_get, Option}
 use Rattle.term_heap.specs.declared.cell.TermId.{TermId}
 
