@@ -10,6 +10,8 @@ mod heaps;
 #[cfg(test)]
 mod instruction_tables;
 #[cfg(test)]
+mod mailboxes;
+#[cfg(test)]
 mod numbers;
 #[cfg(test)]
 mod operations;
