@@ -1,0 +1,5 @@
+pub mod Auto
+pub mod Choices
+pub mod Delivery
+pub mod Runs
+pub mod World
