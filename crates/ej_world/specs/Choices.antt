@@ -6,7 +6,7 @@ use Rattle.ej_world.specs.declared.effect.Begin.{Begin}
 use Rattle.ej_world.specs.declared.event.Event.{Event}
 use Rattle.ej_world.specs.declared.event.Event.TheVariants as event
 use Rattle.ej_world.specs.Delivery.{deliver}
-use Rattle.ej_world.specs.World.{Status, Running, Waiting, Ended, Process, World, Change, next_pid, limit, fresh, is_live, live, ready, sending, with_process, with_links, with_message, end_events}
+use Rattle.ej_world.specs.World.{Status, Running, Waiting, Ended, Process, World, Change, next_pid, limit, fresh, is_live, is_ready, live, ready, sending, with_process, with_links, with_message, end_events}
 
 -- ---- what a code brings
 
@@ -164,7 +164,7 @@ turn_of code r transfers me p (Some state) = Some (turned code r me p (code.turn
 
 abbrev pub run_ready : {S : Type 0} → Code S → System S → (transfers me : ℕ) → Option Process → Option (Happened S)
 run_ready code r transfers me None = None
-run_ready code r transfers me (Some p) = if holds (ready r.world) me then turn_of code r transfers me p (slice_get r.states me) else None
+run_ready code r transfers me (Some p) = if is_ready r.world.clock p then turn_of code r transfers me p (slice_get r.states me) else None
 
 -- a turn of so many transfers of a process that is ready
 abbrev pub run_process : {S : Type 0} → Code S → System S → (transfers me : ℕ) → Option (Happened S)
