@@ -52,8 +52,16 @@ pub record System (S : Type 0) : Type 0 where
 abbrev pub view_of : World → (number : ℕ) → Process → View
 view_of w number p =
     record {
-        me = number; clock = w.clock; next_pid = next_pid w; next_ref = w.next_ref;
-        trapping = p.trapping; timer = p.timer; messages = p.messages; save = p.save; links = p.links; live = live w
+      me = number;
+      clock = w.clock;
+      next_pid = next_pid w;
+      next_ref = w.next_ref;
+      trapping = p.trapping;
+      timer = p.timer;
+      messages = p.messages;
+      save = p.save;
+      links = p.links;
+      live = live w;
     }
 
 -- how the processes begin that a turn made
@@ -119,13 +127,13 @@ processes_after w me p t =
 abbrev pub world_after : {S : Type 0} → World → (me : ℕ) → Process → Turned S → World
 world_after w me p t =
     sending (t.events ++ ending me t.view.links t.outcome)
-        (record { node = w.node; next_ref = t.view.next_ref; clock = w.clock; processes = processes_after w me p t; queue = w.queue })
+    (record { node = w.node; next_ref = t.view.next_ref; clock = w.clock; processes = processes_after w me p t; queue = w.queue })
 
 abbrev pub turned : {S : Type 0} → Code S → System S → (me : ℕ) → Process → Turned S → Happened S
 turned code r me p t =
     record {
-        events = t.events ++ (ending me t.view.links t.outcome ++ event.Turn me (depth_after code t.outcome t.state) ∷ []);
-        system = record { world = world_after r.world me p t; states = slice_set r.states me t.state ++ map code.begin (spawned t.events) }
+      events = t.events ++ (ending me t.view.links t.outcome ++ event.Turn me (depth_after code t.outcome t.state) ∷ []);
+      system = record { world = world_after r.world me p t; states = slice_set r.states me t.state ++ map code.begin (spawned t.events) };
     }
 
 -- ---- choices
@@ -150,11 +158,11 @@ abbrev pub start : {S : Type 0} → Code S → System S → Begin Term → Optio
 start code r how =
     if nat_lt (next_pid r.world) limit
     then Some (record {
-        events = event.Start (next_pid r.world) how ∷ [];
-        system = record {
-            world = record { node = r.world.node; next_ref = r.world.next_ref; clock = r.world.clock; processes = r.world.processes ++ fresh ∷ []; queue = r.world.queue };
-            states = r.states ++ code.begin how ∷ []
-        }
+      events = event.Start (next_pid r.world) how ∷ [];
+      system = record {
+        world = record { node = r.world.node; next_ref = r.world.next_ref; clock = r.world.clock; processes = r.world.processes ++ fresh ∷ []; queue = r.world.queue };
+        states = r.states ++ code.begin how ∷ [];
+      };
     })
     else None
 
@@ -176,8 +184,8 @@ delivered r from to = option_map (of_change r.states) (deliver r.world from to)
 abbrev pub at_clock : {S : Type 0} → System S → (clock : ℕ) → Happened S
 at_clock r clock =
     record {
-        events = event.Clock clock ∷ [];
-        system = record { world = record { node = r.world.node; next_ref = r.world.next_ref; clock = clock; processes = r.world.processes; queue = r.world.queue }; states = r.states }
+      events = event.Clock clock ∷ [];
+      system = record { world = record { node = r.world.node; next_ref = r.world.next_ref; clock = clock; processes = r.world.processes; queue = r.world.queue }; states = r.states };
     }
 
 -- the clock stays at its limit

@@ -1,3 +1,4 @@
+pub mod Agree
 pub mod Auto
 pub mod Choices
 pub mod Delivery

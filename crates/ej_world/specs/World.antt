@@ -145,6 +145,6 @@ end_events number reason links = event.Exit number reason ∷ map (λ other. eve
 abbrev pub ends : World → ℕ → Process → (reason : Term) → Change
 ends w number p reason =
     record {
-        events = end_events number reason p.links;
-        world = sending (end_events number reason p.links) (with_process w number (with_status p Ended))
+      events = end_events number reason p.links;
+      world = sending (end_events number reason p.links) (with_process w number (with_status p Ended));
     }
