@@ -1,0 +1,73 @@
+-- The signals of one pair are delivered in the order in which they were sent.
+use Rattle.std.specs.Prelude.{◌≡◌, ℕ, Bool, true, nat_eq, ◌&&◌, ◌⊎◌, if◌then◌else◌, List, [], ◌∷◌, ◌++◌, codes}
+use Rattle.std.specs.List.{AllByRecursion, flat_map}
+use Rattle.ej_term.specs.Term.{Term, Atom}
+use Rattle.ej_world.specs.declared.event.Event.{Event}
+use Rattle.ej_world.specs.declared.event.Event.TheVariants as event
+use Rattle.ej_world.specs.Choices.{Code, View}
+use Rattle.ej_world.specs.Delivery.{exit_message, is_atom}
+use Rattle.ej_world.specs.World.{Signal, Message, Link, Exit}
+
+-- what an event sends from one process to another
+abbrev pub sent_by : (from to : ℕ) → Event Term → List Signal
+sent_by from to (event.Send p q message) = if nat_eq from p && nat_eq to q then Message message ∷ [] else []
+sent_by from to (event.Signal p q reason) = if nat_eq from p && nat_eq to q then Exit reason ∷ [] else []
+sent_by from to (event.Broken p q reason) = if nat_eq from p && nat_eq to q then Link reason ∷ [] else []
+sent_by from to _ = []
+
+abbrev pub sent : (from to : ℕ) → List (Event Term) → List Signal
+sent from to events = flat_map (sent_by from to) events
+
+-- what is seen of a delivery from one process to another
+abbrev pub handled_by : (from to : ℕ) → Event Term → List (Event Term)
+handled_by from to (event.Deliver p q message) = if nat_eq from p && nat_eq to q then event.Deliver p q message ∷ [] else []
+handled_by from to (event.Hit p q reason) = if nat_eq from p && nat_eq to q then event.Hit p q reason ∷ [] else []
+handled_by from to (event.Dropped p q) = if nat_eq from p && nat_eq to q then event.Dropped p q ∷ [] else []
+handled_by from to _ = []
+
+abbrev pub handled : (from to : ℕ) → List (Event Term) → List (Event Term)
+handled from to events = flat_map (handled_by from to) events
+
+-- what may be seen of the delivery of an exit signal
+pub data ShowsExit (from to : ℕ) (reason : Term) : Event Term → Type 0 where
+  Drops : ShowsExit from to reason (event.Dropped from to)
+  Ends : ShowsExit from to reason (event.Hit from to reason)
+  Traps : (node : ℕ) → ShowsExit from to reason (event.Deliver from to (exit_message node from reason))
+
+-- what may be seen of the delivery of a signal
+pub data Shows (from to : ℕ) : Signal → Event Term → Type 0 where
+  Appends : (message : Term) → Shows from to (Message message) (event.Deliver from to message)
+  Ignores : (signal : Signal) → Shows from to signal (event.Dropped from to)
+  Breaks : (reason : Term) (e : Event Term) → ShowsExit from to reason e → Shows from to (Link reason) e
+  Exits : (reason : Term) (e : Event Term) → ShowsExit from to reason e → Shows from to (Exit reason) e
+  Kills : (reason : Term) → is_atom (codes "kill") reason ≡ true → Shows from to (Exit reason) (event.Hit from to (Atom (codes "killed")))
+
+abbrev pub ShowEach : (from to : ℕ) → List Signal → List (Event Term) → Type 0
+ShowEach from to [] [] = Unit {0}
+ShowEach from to (signal ∷ signals) (e ∷ events) = Shows from to signal e × ShowEach from to signals events
+ShowEach from to _ _ = ⊥
+
+-- what was sent from one process to another is, in its order, what was delivered, and then what waits
+pub record InOrder (from to : ℕ) (events : List (Event Term)) : Type 0 where
+  pub delivered : List Signal
+  pub waiting : List Signal
+  pub are : sent from to events ≡ delivered ++ waiting
+  pub shown : ShowEach from to delivered (handled from to events)
+
+-- an event that a turn may give
+abbrev pub IsOfTurn : Event Term → Type 0
+IsOfTurn (event.Spawn p q how) = Unit {0}
+IsOfTurn (event.Send p q message) = Unit {0}
+IsOfTurn (event.Signal p q reason) = Unit {0}
+IsOfTurn (event.Broken p q reason) = Unit {0}
+IsOfTurn (event.Lost p message) = Unit {0}
+IsOfTurn (event.Recv p message) = Unit {0}
+IsOfTurn (event.Print p term) = Unit {0}
+IsOfTurn (event.Raise p class reason) = Unit {0}
+IsOfTurn (event.Answer p value) = Unit {0}
+IsOfTurn (event.Fault p) = Unit {0}
+IsOfTurn _ = ⊥
+
+-- turns give only such events
+abbrev pub GivesOfTurns : {S : Type 0} → Code S → Type 0
+GivesOfTurns {S} code = (transfers : ℕ) (v : View) (state : S) → AllByRecursion IsOfTurn (code.turn transfers v state).events
