@@ -334,6 +334,51 @@ const ROWS: &str = "\
 2 2 1b1ba70003a70000 0001ff000500020700400100020000 ok iload_1; iload_1; goto 3; goto 0 at 5:P I/Top Top
 # A class that two types name is one only where it is the same.
 1 3 a70003a700031bac 0002ff00030003070040010700460000ff00020003070040010700460000 typed:0 goto 3; goto 3; iload_1; ireturn at 3:P I X/, 6:P I X/
+# The other short forms, and the forms with an operand of one byte or two.
+0 2 03ac - typed:0 iconst_0; ireturn
+1 2 04ac - ok iconst_1; ireturn
+0 2 04ac - typed:0 iconst_1; ireturn
+1 2 05ac - ok iconst_2; ireturn
+0 2 05ac - typed:0 iconst_2; ireturn
+1 2 06ac - ok iconst_3; ireturn
+0 2 06ac - typed:0 iconst_3; ireturn
+1 2 07ac - ok iconst_4; ireturn
+0 2 07ac - typed:0 iconst_4; ireturn
+0 2 02ac - typed:0 iconst_m1; ireturn
+0 2 08ac - typed:0 iconst_5; ireturn
+0 2 0157ac - typed:0 aconst_null; pop; ireturn
+0 2 1001ac - typed:0 bipush 1; ireturn
+0 2 110001ac - typed:0 sipush 1; ireturn
+0 2 1209ac - typed:0 ldc int; ireturn
+0 2 13000aac - typed:0 ldc_w str; ireturn
+1 4 2a4b2a571bac - ok aload_0; astore_0; aload_0; pop; iload_1; ireturn
+1 4 1b4b1bac - typed:1 iload_1; astore_0; iload_1; ireturn
+1 4 2a4e2d571bac - ok aload_0; astore_3; aload_3; pop; iload_1; ireturn
+1 3 2a4e1bac - typed:1 aload_0; astore_3; iload_1; ireturn
+1 4 1b4e1bac - typed:1 iload_1; astore_3; iload_1; ireturn
+1 4 1b4d1bac - typed:1 iload_1; astore_2; iload_1; ireturn
+1 4 2a3a021902571bac - ok aload_0; astore 2; aload 2; pop; iload_1; ireturn
+1 4 1b3a021bac - typed:1 iload_1; astore 2; iload_1; ireturn
+1 4 2a3a041bac - typed:1 aload_0; astore 4; iload_1; ireturn
+1 4 2a36021bac - typed:1 aload_0; istore 2; iload_1; ireturn
+1 4 1b36041bac - typed:1 iload_1; istore 4; iload_1; ireturn
+1 4 2a3b1bac - typed:1 aload_0; istore_0; iload_1; ireturn
+1 4 2a3d1bac - typed:1 aload_0; istore_2; iload_1; ireturn
+1 4 2a3e1bac - typed:1 aload_0; istore_3; iload_1; ireturn
+1 4 1bc43600031dac - ok iload_1; wide istore 3; iload_3; ireturn
+1 4 2ac43600031bac - typed:1 aload_0; wide istore 3; iload_1; ireturn
+1 4 1bc43600041bac - typed:1 iload_1; wide istore 4; iload_1; ireturn
+1 4 1bc43a00031bac - typed:1 iload_1; wide astore 3; iload_1; ireturn
+1 2 c41900011bac - typed:0 wide aload 1; iload_1; ireturn
+1 2 19011bac - typed:0 aload 1; iload_1; ireturn
+1 4 1dac - typed:0 iload_3; ireturn
+1 4 2d1bac - typed:0 aload_3; iload_1; ireturn
+1 5 a700031bac 0001fd00030000 ok goto 3; iload_1; ireturn
+1 5 a700031bac 0001fd00030001 typed:0 goto 3; iload_1; ireturn
+1 5 a700031bac 0001fe0003000000 ok goto 3; iload_1; ireturn
+1 5 a700031bac 0001fe0003000005 typed:0 goto 3; iload_1; ireturn
+1 4 a700031bac 0001fe0003000000 map goto 3; iload_1; ireturn
+1 2 a700031bac 0001fb0002 map goto 3; iload_1; ireturn
 ";
 
 /// Two methods, `f__0` and `f__1`, as above, and the first that is at fault with what is answered of it.
@@ -443,7 +488,7 @@ fn each_rule(rt: HostRuntime) -> Result<(), Fail> {
         assert!(rt; is_told(&answer, 0, word(&mut words))?, "{line}");
         count = u16::wrapping_add(count, 1);
     }
-    assert_eq!(rt; count, 289);
+    assert_eq!(rt; count, 333);
     Ok(())
 }
 
