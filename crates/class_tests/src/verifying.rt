@@ -379,6 +379,12 @@ const ROWS: &str = "\
 1 5 a700031bac 0001fe0003000005 typed:0 goto 3; iload_1; ireturn
 1 4 a700031bac 0001fe0003000000 map goto 3; iload_1; ireturn
 1 2 a700031bac 0001fb0002 map goto 3; iload_1; ireturn
+# Each kind of branch asks for a frame at its target.
+1 2 1b9900031bac - typed:1 iload_1; ifeq 3; iload_1; ireturn
+2 2 1b1b9f00031bac - typed:2 iload_1; iload_1; if_icmpeq 3; iload_1; ireturn
+2 2 2a2aa600031bac - typed:2 aload_0; aload_0; if_acmpne 3; iload_1; ireturn
+1 2 2ac600031bac - typed:1 aload_0; ifnull 3; iload_1; ireturn
+1 2 2ac700031bac - typed:1 aload_0; ifnonnull 3; iload_1; ireturn
 ";
 
 /// Two methods, `f__0` and `f__1`, as above, and the first that is at fault with what is answered of it.
@@ -488,7 +494,7 @@ fn each_rule(rt: HostRuntime) -> Result<(), Fail> {
         assert!(rt; is_told(&answer, 0, word(&mut words))?, "{line}");
         count = u16::wrapping_add(count, 1);
     }
-    assert_eq!(rt; count, 333);
+    assert_eq!(rt; count, 338);
     Ok(())
 }
 
