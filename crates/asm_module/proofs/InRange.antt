@@ -20,7 +20,7 @@ use Rattle.beam_code.specs.declared.operand.TheConstants.{LAST_COUNT}
 use Rattle.beam_code.specs.RowFits.{fits}
 use Rattle.beam_code.specs.Keys.{Key, is_among}
 use Rattle.beam_code.specs.Parts.{Instruction, fitting, FunctionParts, ModuleParts}
-use Rattle.asm_terms.specs.Numbers.{has_64_bits}
+use Rattle.ej_term.specs.Term.{has_64_bits}
 use Rattle.asm_module.specs.declared.fault.FormFault.{FormFault}
 use Rattle.asm_module.specs.Terms.{is_word, atom_in, atom, integer_in, integer, up_to, number, tuple_in, tuple, Tagged, tagged_parts, tagged, pair_of, pair, pair_with, behind}
 use Rattle.asm_module.specs.Operands.{register_named, nil_named, value_named, source_paired, source_of, external_with, external_parts, external_tagged, operand_of, is_need, one, kept_of, operands_of}

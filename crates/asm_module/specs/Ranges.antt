@@ -5,7 +5,7 @@ use Rattle.std.specs.Str.{all_scalars}
 use Rattle.ej_term.specs.declared.asm_term.AsmTerm.{AsmTerm, fold-AsmTerm}
 use Rattle.ej_term.specs.declared.asm_term.AsmTerm.TheOpen as o
 use Rattle.ej_term.specs.declared.asm_term.AsmTerm.TheOpen.{AsmTerm-F}
-use Rattle.asm_terms.specs.Numbers.{has_64_bits}
+use Rattle.ej_term.specs.Term.{has_64_bits}
 use Rattle.beam_code.specs.declared.operand.Operand.{Operand}
 use Rattle.beam_code.specs.declared.operand.Operand.TheVariants as operand
 use Rattle.beam_code.specs.declared.operand.Src.{Src}

@@ -6,7 +6,8 @@ use Rattle.std.specs.Str.Parse.{AllDigits, without_leading_plus, without_leading
 use Rattle.std.specs.Result.{result_ok, OkIff}
 use Rattle.std.proofs.lemmas.Str.{encodes-IsAscii}
 use Rattle.asm_terms.specs.Runs.{run, begins}
-use Rattle.asm_terms.specs.Numbers.{is_digit, begins_number, has_64_bits, integer}
+use Rattle.ej_term.specs.Term.{has_64_bits}
+use Rattle.asm_terms.specs.Numbers.{is_digit, begins_number, integer}
 use Rattle.asm_terms.specs.Reading.{IsInteger, IsMinus}
 use Rattle.asm_terms.specs.declared.token.Token.TheVariants as token
 

@@ -1,8 +1,9 @@
 -- Integers and floats (Erlang Reference Manual, "Numbers"): an integer is digits, with `-` directly before them or not;
 -- behind `.` and digits, and then `e` or `E`, a sign or none and digits, or nothing, it is a float.
-use Rattle.std.specs.Prelude.{ℕ, ℤ, pos, negsuc, Bool, false, nat_eq, nat_lt, ◌||◌, ◌&&◌, if◌then◌else◌, List, [], ◌∷◌, ◌++◌, Option, None, Some, drop, ◌^◌}
+use Rattle.std.specs.Prelude.{ℕ, Bool, false, nat_eq, nat_lt, ◌||◌, ◌&&◌, if◌then◌else◌, List, [], ◌∷◌, ◌++◌, Option, None, Some, drop}
 use Rattle.std.specs.Char.{digit_value}
 use Rattle.std.specs.Str.Parse.{signed_digits_value}
+use Rattle.ej_term.specs.Term.{has_64_bits}
 use Rattle.asm_terms.specs.Runs.{run, behind, begins}
 use Rattle.asm_terms.specs.declared.token.Token.{Token}
 use Rattle.asm_terms.specs.declared.token.Token.TheVariants as token
@@ -13,10 +14,6 @@ is_digit base c = nat_lt (digit_value c) base
 
 abbrev pub begins_number : List ℕ → Bool
 begins_number = begins (is_digit 10)
-
-abbrev pub has_64_bits : ℤ → Bool
-has_64_bits (pos n) = nat_lt n (2 ^ 63)
-has_64_bits (negsuc n) = nat_lt n (2 ^ 63)
 
 -- the integer that a minus, or none, and decimal digits write; one of more than 64 bits is kept as it is spelled
 abbrev pub integer : List ℕ → Token

@@ -2,6 +2,10 @@ pub mod Term
 pub mod Atoms
 pub mod Order
 pub mod TermPrint
+pub mod WellFormed
+pub mod Readable
+pub mod ReadableWorked
+pub mod Prints
 pub mod Outcome
 pub mod TestNumbers
 pub mod Tests

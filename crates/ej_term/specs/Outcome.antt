@@ -1,9 +1,9 @@
 -- What a builtin function gives: a value, or a raised exception (Erlang Reference Manual, "Errors and Error Handling").
-use Rattle.std.specs.Prelude.{ℕ, ℤ, pos, negsuc, ◌-◌, ◌^◌, Bool, true, false, ◌&&◌, if◌then◌else◌, int_le, List, [], ◌∷◌, codes, Option, Some}
+use Rattle.std.specs.Prelude.{ℕ, ℤ, pos, Bool, true, false, if◌then◌else◌, List, [], ◌∷◌, codes, Option, Some}
 use Rattle.std.specs.Prelude as std
 use Rattle.ej_term.specs.declared.class.Class3.{Class3}
 use Rattle.ej_term.specs.declared.class.Class3.TheVariants.{Error}
-use Rattle.ej_term.specs.Term.{Term, Int, tuple, atom}
+use Rattle.ej_term.specs.Term.{Term, Int, tuple, atom, has_64_bits}
 
 pub data Outcome : Type 0 where
   Value : (value : Term) → Outcome
@@ -42,10 +42,6 @@ abbrev pub or_badarg : Option Term → Outcome
 or_badarg std.None = badarg
 or_badarg (Some value) = Value value
 
--- an integer has 64 bits with its sign
-abbrev pub fits : ℤ → Bool
-fits n = int_le (negsuc (2 ^ 63 - 1)) n && int_le n (pos (2 ^ 63 - 1))
-
 -- this integer, or error system_limit where it does not fit
 abbrev pub integer : ℤ → Outcome
-integer n = if fits n then Value (Int n) else system_limit
+integer n = if has_64_bits n then Value (Int n) else system_limit

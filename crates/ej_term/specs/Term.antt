@@ -1,5 +1,5 @@
 -- Erlang terms (Erlang Reference Manual, "Data Types"), without floats, bit strings and ports.
-use Rattle.std.specs.Prelude.{ℕ, ℤ, Bool, List, [], ◌∷◌}
+use Rattle.std.specs.Prelude.{ℕ, ℤ, pos, negsuc, ◌^◌, Bool, nat_lt, List, [], ◌∷◌}
 
 mutual
   pub data Term : Type 0 where
@@ -38,3 +38,8 @@ list (t ∷ ts) = Cons t (list ts)
 
 abbrev pub atom : List ℕ → Term
 atom name = Atom name
+
+-- an integer has 64 bits with its sign
+abbrev pub has_64_bits : ℤ → Bool
+has_64_bits (pos n) = nat_lt n (2 ^ 63)
+has_64_bits (negsuc n) = nat_lt n (2 ^ 63)

@@ -1,7 +1,8 @@
 //! Erlang terms: which there are, their order and their print, and what tests and builtin functions give.
 //!
 //! The definitions stand in `specs/`. `Term` has the terms, `Order` their order, `TermPrint` their canonical
-//! print, `Tests` what each test says, and `Builtins` what each builtin function without an effect gives, over a
+//! print, `WellFormed` and `Readable` which of them are of the profile and which prints are read, `Tests` what each
+//! test says, and `Builtins` what each builtin function without an effect gives, over a
 //! file for each family of them. Their numbers are the places in `TestNumbers` and `BuiltinNumbers`. A source text
 //! writes a term as an `AsmTerm`: `AsmValue` has the term that it stands for, and `Print` its own print.
 //!
@@ -27,4 +28,4 @@ pub use class::Class3;
 pub use laws::{opaque_has_no_value, order_is_total, pairs_are_maps, print_is_of_value};
 pub use test::Test;
 pub use text::Text;
-pub use worked::{worked_builtins, worked_order, worked_prints};
+pub use worked::{worked_builtins, worked_order, worked_prints, worked_readable};

@@ -1,6 +1,7 @@
 //! Worked rows, as facts about the definitions.
 
 ghost use Rattle.ej_term.specs.Worked.{OrderRows, NumberRows, TestRows, ArithmeticRows, ListRows, MapRows, OtherRows, PrintRows};
+ghost use Rattle.ej_term.specs.ReadableWorked.{ReadableRows};
 
 /// Does nothing: its contract is how the order places some terms.
 pub fn worked_order()
@@ -21,4 +22,9 @@ pub fn worked_builtins()
 #[tactic(auto, using(crate::proofs::WorkedPrints::rows))]
 pub fn worked_prints()
     ensures { PrintRows }
+{}
+
+/// Does nothing: its contract is which of some terms are readable.
+pub fn worked_readable()
+    ensures { ReadableRows }
 {}

@@ -11,7 +11,7 @@ use Rattle.ej_term.specs.declared.asm_term.AsmTerm.TheOpen.{AsmTerm-F}
 use Rattle.ej_term.specs.declared.asm_term.AsmTerm.TheVariants as v
 use Rattle.asm_terms.specs.Characters.{characters}
 use Rattle.asm_terms.specs.Forms.{AreFormsOf, AreForms}
-use Rattle.asm_terms.specs.Numbers.{has_64_bits}
+use Rattle.ej_term.specs.Term.{has_64_bits}
 use Rattle.asm_terms.specs.declared.token.Token.{Token}
 use Rattle.asm_terms.specs.Grammar.{IsTerm, int, atom, string, «opaque», pid, reference, external, empty_tuple, filled_tuple, empty_list, filled_list, empty_map, filled_map, AreMoreParts, no_part, part, AreMoreElements, no_element, element, bar, AreMorePairs, no_pair, pair}
 use Rattle.asm_module.specs.Ranges.{is_atom_name, good_step, good, Good, EachGood}

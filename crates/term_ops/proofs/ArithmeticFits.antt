@@ -6,9 +6,9 @@ use Rattle.std.proofs.lemmas.Int.{to_z-of_z, to_z_pos}
 use Rattle.std.proofs.lemmas.Bool.Decides.{nat_tests}
 use Rattle.std.proofs.Math.Pow.{pow_mono}
 use Rattle.std.proofs.Math.Nat.{mul-le-mul}
-use Rattle.ej_term.specs.Outcome.{fits}
+use Rattle.ej_term.specs.Term.{has_64_bits}
 
-pub is-fitting : (z : ℤ) → FitsSigned w64 z → fits z ≡ true
+pub is-fitting : (z : ℤ) → FitsSigned w64 z → has_64_bits z ≡ true
 is-fitting (pos n) h = grind (arith, nat_tests, h.sfits)
 is-fitting (negsuc n) h = grind (arith, nat_tests, h.sfits)
 

@@ -6,7 +6,7 @@ use Rattle.ej_term.specs.Term.{Term, Int, Atom, Reference, Fun, Pid, Tuple, Map,
 use Rattle.asm_terms.specs.declared.token.Token.{Token}
 use Rattle.asm_terms.specs.declared.token.Token.TheVariants as token
 use Rattle.asm_terms.specs.Grammar.{opened_by, closed_by, deep_behind, too_deep}
-use Rattle.term_text.specs.Readable.{is_shallow, are_shallow, are_shallow_pairs, is_shallow_tail}
+use Rattle.ej_term.specs.Readable.{is_shallow, are_shallow, are_shallow_pairs, is_shallow_tail}
 use Rattle.term_text.proofs.Spelled.{function_tokens, tokens, parts_tokens, rest_tokens, pairs_tokens, more_tokens, tail_tokens}
 use Rattle.term_text.proofs.Sound.{Sound, AllSound, AllPairsSound}
 

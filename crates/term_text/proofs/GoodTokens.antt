@@ -10,7 +10,8 @@ use Rattle.std.proofs.Math.Utf8.{scalar, low_scalar}
 use Rattle.asm_terms.specs.declared.token.Token.{Token}
 use Rattle.asm_terms.specs.declared.token.Token.TheVariants as token
 use Rattle.asm_terms.specs.Runs.{run, behind, after}
-use Rattle.asm_terms.specs.Numbers.{is_digit, has_64_bits, integer, begins_number, begins_fraction, is_exponent_mark, is_sign, exponent, signed_exponent, exponent_digits, with_exponent, float, with_fraction, whole_or_float, number}
+use Rattle.ej_term.specs.Term.{has_64_bits}
+use Rattle.asm_terms.specs.Numbers.{is_digit, integer, begins_number, begins_fraction, is_exponent_mark, is_sign, exponent, signed_exponent, exponent_digits, with_exponent, float, with_fraction, whole_or_float, number}
 use Rattle.asm_terms.specs.Names.{begins_name, is_name_character, name, word, atom}
 use Rattle.asm_terms.specs.Quotes.{is_scalar, control, octal, braced, second_digit, hexadecimal, escaped, quoted_from, quoted, behind_character, quoted_character}
 use Rattle.asm_terms.specs.Binaries.{binary_from, binary, ends_binary, place_behind}
@@ -20,7 +21,7 @@ use Rattle.asm_terms.specs.Blanks.{skip, is_blank}
 use Rattle.asm_terms.specs.Splitting.{HasTokens}
 use Rattle.asm_terms.proofs.Shorter.{either}
 use Rattle.asm_terms.proofs.SplitLaw.{walked}
-use Rattle.term_text.specs.Readable.{is_short}
+use Rattle.ej_term.specs.Readable.{is_short}
 
 -- a text of Unicode scalar values
 abbrev pub AreScalars : List ℕ → Type 0

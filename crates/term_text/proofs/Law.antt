@@ -11,8 +11,8 @@ use Rattle.asm_terms.specs.Grammar.{too_deep}
 use Rattle.asm_terms.specs.Splitting.{HasMore, at_end, blank}
 use Rattle.asm_terms.proofs.FormsLaw.{one_reading}
 use Rattle.asm_terms.proofs.SplitLaw.{skipped, has_tokens, one_split}
-use Rattle.term_text.specs.WellFormed.{everywhere, is_well_formed}
-use Rattle.term_text.specs.Readable.{is_sayable, is_shallow, is_readable}
+use Rattle.ej_term.specs.WellFormed.{everywhere, is_well_formed}
+use Rattle.ej_term.specs.Readable.{is_sayable, is_shallow, is_readable}
 use Rattle.term_text.specs.Laws.{IsRead, PrintsAreRead}
 use Rattle.term_text.proofs.Ascii.{print-characters, print-scalars}
 use Rattle.term_text.proofs.Sound.{Sound, sound, formed}

@@ -3,14 +3,13 @@ use Rattle.std.proofs.Common.{◌≡◌, ℕ, ◌^◌, Bool, true, false, nat_lt
 use Rattle.std.specs.Fmt.{decimal, signed_decimal}
 use Rattle.std.specs.Str.{all_scalars}
 use Rattle.std.proofs.lemmas.Bool.{leb-true, lt-ltb}
-use Rattle.ej_term.specs.Term.{Term, Int, Atom, Reference, Fun, Pid, Tuple, Map, Nil, Cons, Terms, None, More, Pairs, Empty, Pair}
+use Rattle.ej_term.specs.Term.{Term, Int, Atom, Reference, Fun, Pid, Tuple, Map, Nil, Cons, Terms, None, More, Pairs, Empty, Pair, has_64_bits}
 use Rattle.ej_term.specs.TermPrint.{print_atom, print_numbers, print_function, print, print_parts, print_rest, print_pairs, print_more_pairs, print_tail}
-use Rattle.asm_terms.specs.Numbers.{has_64_bits}
 use Rattle.asm_terms.specs.Tokens.{token_at, is_full_stop, skip_blank, with_token, tokens_behind, form_tokens}
 use Rattle.asm_terms.specs.declared.token.Token.{Token}
 use Rattle.asm_terms.specs.declared.token.Token.TheVariants as token
 use Rattle.asm_terms.proofs.TokenLemmas.{tokens-step, tokens-stop, with_token-plain}
-use Rattle.term_text.specs.Readable.{is_short}
+use Rattle.ej_term.specs.Readable.{is_short}
 use Rattle.term_text.proofs.Fronts.{Stops, Begins}
 use Rattle.term_text.proofs.Names.{atom-begins}
 use Rattle.term_text.proofs.Numbers.{int-begins, pid-begins, reference-begins}

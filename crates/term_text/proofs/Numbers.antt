@@ -9,7 +9,8 @@ use Rattle.std.proofs.lemmas.Fmt.{decimal_is_IsNumeral_wide}
 use Rattle.ej_term.specs.TermPrint.{print_numbers}
 use Rattle.asm_terms.specs.Runs.{behind, begins}
 use Rattle.asm_terms.specs.Blanks.{is_blank, ends_form}
-use Rattle.asm_terms.specs.Numbers.{is_digit, has_64_bits, integer, begins_fraction, number, whole_or_float}
+use Rattle.ej_term.specs.Term.{has_64_bits}
+use Rattle.asm_terms.specs.Numbers.{is_digit, integer, begins_fraction, number, whole_or_float}
 use Rattle.asm_terms.specs.Identifiers.{bounded, number_up_to, with_word, node, last_number, with_number, pid, reference}
 use Rattle.asm_terms.specs.declared.token.Token.{Token}
 use Rattle.asm_terms.specs.declared.token.Token.TheVariants as token

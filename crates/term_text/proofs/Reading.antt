@@ -17,7 +17,7 @@ use Rattle.term_heap.specs.Loaded.{IsLoaded}
 use Rattle.term_text.specs.declared.fault.ReadFault.{ReadFault}
 use Rattle.term_text.specs.declared.fault.ReadFault.TheVariants as fault
 use Rattle.term_text.specs.Laws.{IsRead}
-use Rattle.term_text.specs.Prints.{IsPrint, IsNoPrint}
+use Rattle.ej_term.specs.Prints.{IsPrint, IsNoPrint}
 use Rattle.term_text.specs.Reads.{Reads, Checks}
 use Rattle.term_text.proofs.Law.{law}
 

@@ -3,11 +3,10 @@ use Rattle.std.specs.Prelude.{◌≡◌, ℕ, ◌^◌, Bool, true, false, ◌&&�
 use Rattle.std.proofs.Common.{refl, sym, ap, true≢false}
 use Rattle.std.specs.Str.{all_scalars}
 use Rattle.std.proofs.lemmas.Bool.{and_parts, and_from}
-use Rattle.ej_term.specs.Term.{Term, Int, Atom, Reference, Fun, Pid, Tuple, Map, Nil, Cons, Terms, None, More, Pairs, Empty, Pair}
+use Rattle.ej_term.specs.Term.{Term, Int, Atom, Reference, Fun, Pid, Tuple, Map, Nil, Cons, Terms, None, More, Pairs, Empty, Pair, has_64_bits}
 use Rattle.ej_term.specs.Maps.{rises}
-use Rattle.asm_terms.specs.Numbers.{has_64_bits}
-use Rattle.term_text.specs.WellFormed.{everywhere, in_each, in_each_pair, is_empty, is_in_range}
-use Rattle.term_text.specs.Readable.{is_short, is_sayable}
+use Rattle.ej_term.specs.WellFormed.{everywhere, in_each, in_each_pair, is_empty, is_in_range}
+use Rattle.ej_term.specs.Readable.{is_short, is_sayable}
 
 -- an external fun
 pub record IsFunction (local : Bool) (owner name : List ℕ) (arity : ℕ) (environment : Terms) : Type 0 where

@@ -9,7 +9,7 @@ use Rattle.std.specs.Str.{all_scalars}
 use Rattle.std.proofs.lemmas.Bool.{and_parts, leb-true, le-leb, lt-ltb}
 use Rattle.std.proofs.lemmas.Option.{none-some}
 use Rattle.std.proofs.Math.Utf8.{scalar, scalar_cases}
-use Rattle.ej_term.specs.Term.{Term, Int, Atom, Reference, Fun, Pid, Map, Nil, None, Pairs, Empty, Pair, terms, tuple}
+use Rattle.ej_term.specs.Term.{Term, Int, Atom, Reference, Fun, Pid, Map, Nil, None, Pairs, Empty, Pair, terms, tuple, has_64_bits}
 use Rattle.ej_term.specs.declared.asm_term.AsmTerm.{AsmTerm, out-AsmTerm, fold_out-AsmTerm}
 use Rattle.ej_term.specs.declared.asm_term.AsmTerm.TheFolds.{map-AsmTerm}
 use Rattle.ej_term.specs.declared.asm_term.AsmTerm.TheOpen as layer
@@ -23,7 +23,6 @@ use Rattle.ej_term.specs.AsmValue.{every, ending, value_step, value}
 use Rattle.ej_term.proofs.MapLaws.{laws}
 use Rattle.ej_term.proofs.Options.{unsome, mapped, chained, zipped, first-every}
 use Rattle.ej_term.proofs.ValueLemmas.{value-Int, value-Atom, value-Str, value-List, value-Tuple, value_pair, value-Map, value-ExtFun, value-Pid, value-Ref, value-Opaque}
-use Rattle.asm_terms.specs.Numbers.{has_64_bits}
 use Rattle.asm_terms.specs.declared.token.Token.{Token}
 use Rattle.asm_terms.specs.Grammar.{characters_as_terms, continued_by, continued, IsTerm, int, atom, string, «opaque», pid, reference, external, empty_tuple, filled_tuple, empty_list, filled_list, empty_map, filled_map, AreMoreParts, no_part, part, AreMoreElements, no_element, element, bar, AreMorePairs, no_pair, pair}
 use Rattle.term_text.proofs.GoodTokens.{AllGood, AreScalars}

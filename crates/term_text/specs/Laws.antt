@@ -5,8 +5,8 @@ use Rattle.ej_term.specs.Term.{Term}
 use Rattle.ej_term.specs.TermPrint.{print}
 use Rattle.ej_term.specs.AsmValue.{value}
 use Rattle.asm_terms.specs.Forms.{AreForms}
-use Rattle.term_text.specs.WellFormed.{is_well_formed}
-use Rattle.term_text.specs.Readable.{is_readable}
+use Rattle.ej_term.specs.WellFormed.{is_well_formed}
+use Rattle.ej_term.specs.Readable.{is_readable}
 
 -- these bytes and a full stop are one form, which stands for that term
 pub record IsRead (bytes : List ℕ) (term : Term) : Type 0 where

@@ -9,7 +9,7 @@ use Rattle.term_heap.specs.declared.heap.Heap.{Heap}
 use Rattle.term_heap.specs.View.{Holds, term_of}
 use Rattle.term_text.specs.declared.fault.ReadFault.{ReadFault}
 use Rattle.term_text.specs.declared.fault.ReadFault.TheVariants.{BadText, NoMemory}
-use Rattle.term_text.specs.Prints.{IsPrint, IsNoPrint}
+use Rattle.ej_term.specs.Prints.{IsPrint, IsNoPrint}
 
 -- the id of the term whose print these bytes are, or that they are no readable term's print
 abbrev pub Reads : Heap → List ℕ → Result TermId ReadFault → Type 0

@@ -1,9 +1,8 @@
 -- Which terms there are: those of the profile, by the ranges of what they hold.
 use Rattle.std.specs.Prelude.{◌^◌, Bool, true, false, ◌&&◌, ◌||◌, nat_le, nat_lt}
 use Rattle.std.specs.Str.{all_scalars}
-use Rattle.ej_term.specs.Term.{Term, Int, Atom, Reference, Fun, Pid, Tuple, Map, Nil, Cons, Terms, None, More, Pairs, Empty, Pair}
+use Rattle.ej_term.specs.Term.{Term, Int, Atom, Reference, Fun, Pid, Tuple, Map, Nil, Cons, Terms, None, More, Pairs, Empty, Pair, has_64_bits}
 use Rattle.ej_term.specs.Maps.{rises}
-use Rattle.asm_terms.specs.Numbers.{has_64_bits}
 
 abbrev mutual
   -- a term and each term in it pass a test

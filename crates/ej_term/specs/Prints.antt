@@ -2,8 +2,8 @@
 use Rattle.std.specs.Prelude.{◌≡◌, ℕ, true, List}
 use Rattle.ej_term.specs.Term.{Term}
 use Rattle.ej_term.specs.TermPrint.{print}
-use Rattle.term_text.specs.WellFormed.{is_well_formed}
-use Rattle.term_text.specs.Readable.{is_readable}
+use Rattle.ej_term.specs.WellFormed.{is_well_formed}
+use Rattle.ej_term.specs.Readable.{is_readable}
 
 -- these bytes are the print of that term, which is one of the profile and readable
 pub record IsPrint (bytes : List ℕ) (term : Term) : Type 0 where

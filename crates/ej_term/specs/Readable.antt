@@ -1,7 +1,7 @@
 -- Which terms have a print that is read back.
 use Rattle.std.specs.Prelude.{ℕ, suc, ◌^◌, Bool, true, not, ◌&&◌, nat_le, nat_lt, List, length}
 use Rattle.ej_term.specs.Term.{Term, Atom, Reference, Fun, Pid, Tuple, Map, Nil, Cons, Terms, None, More, Pairs, Empty, Pair}
-use Rattle.term_text.specs.WellFormed.{everywhere}
+use Rattle.ej_term.specs.WellFormed.{everywhere}
 
 abbrev mutual
   -- where so many brackets are open already, at most 256 of `{`, `[` and `#{` are open at any place of a term's print
