@@ -1,6 +1,9 @@
 -- Steps of a comparison.
 use Rattle.std.proofs.Common.{◌≡◌, ℕ, ◌+◌, ◌-◌, ◌<◌, nat_le, List, [], ◌∷◌, ◌++◌, length, map, take, drop, slice_get, Some, option_and_then, unwrap_or, refl, sym, ap, ap₂, subst, ◌∙◌, zero, suc, arith}
-use Rattle.std.specs.Prelude.{Result, IfOk}
+use Rattle.std.specs.Prelude.{Result, IfOk, Option, IfNone}
+use Rattle.std.specs.Prelude as std
+use Rattle.std.specs.Ordering.{nat_cmp}
+use Rattle.std.specs.Option.{option_to_list}
 use Rattle.std.specs.List.{All}
 use Rattle.std.specs.Ordering.{ordering_then}
 use Rattle.std.specs.declared.cmp.Ordering.{Ordering}
@@ -10,8 +13,9 @@ use Rattle.std.proofs.lemmas.List.{map-append}
 use Rattle.std.proofs.lemmas.List.Elements.{All-nil, All-cons, All-append, All-take}
 use Rattle.std.proofs.Math.Seq.{take-append_seam}
 use Rattle.std.proofs.lemmas.Grind.{common_steps}
-use Rattle.ej_term.specs.Term.{Term, Nil, terms}
-use Rattle.ej_term.specs.Order.{compare, compare_each}
+use Rattle.ej_term.specs.Term.{Term, Tuple, Nil, Terms, None, More, terms}
+use Rattle.ej_term.specs.Order.{compare, compare_each, size}
+use Rattle.ej_term.proofs.OrderLaws.{order-exact, second-tied}
 use Rattle.ej_term.proofs.Options.{unsome, chained, first-every}
 use Rattle.ej_term.proofs.OrderCode.{then-assoc}
 use Rattle.std.specs.declared.alloc.AllocError.{AllocError}
@@ -23,7 +27,7 @@ use Rattle.term_heap.specs.declared.cell.Cell.{Cell}
 use Rattle.term_heap.specs.declared.work.Work.{Work}
 use Rattle.term_heap.specs.declared.work.Work.TheVariants as w
 use Rattle.term_heap.proofs.Adding.{known, is-known}
-use Rattle.term_heap.proofs.Opening.{OpensTo, opened-right}
+use Rattle.term_heap.proofs.Opening.{OpensTo, opened-right, weight-positive}
 
 pub order-append : (l : Ordering) (xs ys : List Ordering) → order_onto l (xs ++ ys) ≡ order_onto (order_onto l xs) ys
 order-append l [] ys = refl
@@ -98,6 +102,45 @@ runs-open ps ts x y count p q is positive gp gq =
       works = All-cons (IsWork ps ts) (w.Runs (x + 1) (y + 1) (count - 1)) (w.Terms p q ∷ []) (is-known (parts_of ps ts (x + 1) (count - 1)) a.1 a.4, is-known (parts_of ps ts (y + 1) (count - 1)) b.1 b.4)
           (All-cons (IsWork ps ts) (w.Terms p q) [] (is-known (slice_get ts p.0) a.0 a.3, is-known (slice_get ts q.0) b.0 b.3) (All-nil (IsWork ps ts)));
     }
+
+-- what is compared with itself is a tie at once
+stepped-tie : (ps : List TermId) (ts : List Term) (work : Work) (old : List Work) → work_order ps ts work ≡ Equal → 0 < work_weight ps ts work → Stepped ps ts work Equal old old
+stepped-tie ps ts work old tie positive = record {
+  same = ap (λ o. ordering_then o (pending_order ps ts old)) tie;
+  fewer = omega (arith, positive);
+  works = λ h. h;
+}
+
+
+have-weight : (ts : Terms) → 0 < weight_each ts
+have-weight None = omega arith
+have-weight (More first rest) = omega arith
+
+itself : (t : Term) → compare t t ≡ Equal
+itself t = (order-exact t t).1 refl
+
+each-itself : (ts : Terms) → compare_each ts ts ≡ Equal
+each-itself ts = second-tied (nat_cmp (size ts) (size ts)) (compare_each ts ts) (itself (Tuple ts))
+
+pub same-ids : (ps : List TermId) (ts : List Term) (work : Work) (x y : TermId) (old : List Work) → work ≡ w.Terms x y → x.0 ≡ y.0 → Stepped ps ts work Equal old old
+same-ids ps ts work x y old is same =
+    subst (λ (k : Work). Stepped ps ts k Equal old old) (sym is)
+    (stepped-tie ps ts (w.Terms x y) old (ap (λ n. compare (term_at ts x) (unwrap_or (slice_get ts n) Nil)) (sym same) ∙ itself (term_at ts x)) (weight-positive (term_at ts x)))
+
+pub same-runs : (ps : List TermId) (ts : List Term) (work : Work) (x y n : ℕ) (old : List Work) → work ≡ w.Runs x y n → x ≡ y → Stepped ps ts work Equal old old
+same-runs ps ts work x y n old is same =
+    subst (λ (k : Work). Stepped ps ts k Equal old old) (sym is)
+    (stepped-tie ps ts (w.Runs x y n) old (ap (λ k. compare_each (terms (run_at ps ts x n)) (terms (run_at ps ts k n))) (sym same) ∙ each-itself (terms (run_at ps ts x n))) (have-weight (terms (run_at ps ts x n))))
+
+-- nothing is left where the last was taken
+pub none-left : (r : Option Work) (items : List Work) → IfNone r (length items ≡ 0) → IfNone r (items ≡ [])
+none-left std.None [] e = refl
+none-left std.None (x ∷ xs) e = absurd (omega (arith, e))
+none-left (Some x) items e = tt
+
+-- the works with one more, if there is one
+abbrev pub with_next : List Work → Option Work → List Work
+with_next works next = works ++ option_to_list next
 
 -- a step that tells
 pub step-ends : (ps : List TermId) (ts : List Term) (work : Work) (o d : Ordering) (old popped new : List Work)

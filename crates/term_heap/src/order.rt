@@ -16,17 +16,18 @@ use std::cmp::Ordering;
 /// number < atom < reference < fun < pid < tuple < map < nil < list.
 ///
 /// It goes through both terms at once, by a list of what is still to be compared, and stops at the first
-/// difference.
+/// difference. Equal ids and equal runs of parts are not gone through, so terms that share parts cost what differs
+/// in them; two terms without parts take no memory.
 pub fn compare(alloc: Global, heap: &Heap, a: TermId, b: TermId) -> Result<Ordering, AllocError>
     requires first { Holds heap.now a }
     requires second { Holds heap.now b }
     ensures { IfOk result (λ o. o ≡ order.compare (term_of heap.now a) (term_of heap.now b)) }
 {
     let mut pending = Vec::new(alloc);
-    pending.push(Work::Terms(a, b))?;
-    while let Some(work) = pending.pop() {
+    let mut next = Some(Work::Terms(a, b));
+    while let Some(work) = next {
         match step(heap, &mut pending, work)? {
-            Ordering::Equal => {}
+            Ordering::Equal => next = pending.pop(),
             ordering => return Ok(ordering),
         }
     }
@@ -39,8 +40,10 @@ fn step(heap: &Heap, pending: &mut Vec<Work>, work: Work) -> Result<Ordering, Al
     ensures { IfOk result (λ o. Stepped (parts_in heap.now) (terms_in heap.now) work o pending.old.items pending.new.items) }
 {
     match work {
+        Work::Terms(a, b) if a == b => Ok(Ordering::Equal),
         Work::Terms(a, b) => compare_cells(heap, pending, heap.cell(a), heap.cell(b)),
         Work::Runs(_, _, 0) => Ok(Ordering::Equal),
+        Work::Runs(first, other, _) if first == other => Ok(Ordering::Equal),
         Work::Runs(first, other, count) => {
             pending.push(Work::Runs(first + 1, other + 1, count - 1))?;
             pending.push(Work::Terms(heap.part(first), heap.part(other)))?;
