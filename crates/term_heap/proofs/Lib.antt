@@ -9,5 +9,6 @@ pub mod Putting
 pub mod Merging
 pub mod Mapped
 pub mod Kept
+pub mod Sharing
 pub mod Loading
 pub mod Distinct

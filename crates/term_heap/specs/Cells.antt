@@ -1,5 +1,5 @@
 -- The terms that the cells of a heap stand for.
-use Rattle.std.specs.Prelude.{◌≡◌, ℕ, ◌+◌, ◌*◌, Bool, nat_le, if◌then◌else◌, List, [], ◌∷◌, ◌++◌, length, map, take, drop, slice_get, Option, Some, option_map, option_and_then}
+use Rattle.std.specs.Prelude.{◌≡◌, ℕ, ◌+◌, ◌*◌, Bool, nat_le, if◌then◌else◌, List, [], ◌∷◌, ◌++◌, length, map, take, drop, slice_get, Option, Some, unwrap_or, option_map, option_and_then}
 use Rattle.std.specs.Prelude as std
 use Rattle.ej_term.specs.Term.{Term, Int, Atom, Reference, Fun, Pid, Tuple, Map, Nil, Cons, Pairs, Empty, Pair, terms}
 use Rattle.ej_term.specs.AsmValue.{every}
@@ -59,6 +59,10 @@ meaning atoms parts earlier (c.Reference node number) = Some (Reference node num
 abbrev pub meanings : List (List ℕ) → List TermId → List Term → List Cell → Option (List Term)
 meanings atoms parts earlier [] = Some earlier
 meanings atoms parts earlier (cell ∷ cells) = option_and_then (λ t. meanings atoms parts (earlier ++ t ∷ []) cells) (meaning atoms parts earlier cell)
+
+-- the terms of these cells, none where one of them names what isn't there
+abbrev pub all_meant : List (List ℕ) → List TermId → List Cell → List Term
+all_meant atoms parts cells = unwrap_or (meanings atoms parts [] cells) []
 
 -- the first list, and then what may be more
 abbrev pub Extends : {X : Type 0} → List X → List X → Type 0

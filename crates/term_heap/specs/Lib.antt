@@ -4,3 +4,5 @@ pub mod Held
 pub mod Works
 pub mod Entries
 pub mod Loaded
+pub mod Once
+pub mod Made

@@ -1,14 +1,14 @@
 -- A heap as the terms that its ids stand for.
-use Rattle.std.specs.Prelude.{◌≡◌, ℕ, List, [], slice_get, Option, Some, unwrap_or, IsSome}
+use Rattle.std.specs.Prelude.{◌≡◌, ℕ, List, slice_get, Option, Some, unwrap_or, IsSome}
 use Rattle.ej_term.specs.Term.{Term, Nil}
-use Rattle.term_heap.specs.Cells.{meaning, meanings, Extends}
+use Rattle.term_heap.specs.Cells.{meaning, all_meant, Extends}
 use Rattle.term_heap.specs.declared.cell.TermId.{TermId}
 use Rattle.term_heap.specs.declared.cell.Cell.{Cell}
 use Rattle.term_heap.specs.declared.heap.Heap.{Heap}
 
 -- the terms by their ids
 abbrev pub terms_in : Heap → List Term
-terms_in heap = unwrap_or (meanings heap.atoms.keys heap.parts.items [] heap.cells.items) []
+terms_in heap = all_meant heap.atoms.keys heap.parts.items heap.cells.items
 
 -- the parts by their places
 abbrev pub parts_in : Heap → List TermId

@@ -1,9 +1,11 @@
 //! A heap of terms.
 
 ghost use Rattle.std.specs.Prelude.{◌≡◌, [], is_some, true};
-ghost use Rattle.term_heap.specs.Cells.{meanings};
+ghost use Rattle.term_heap.specs.Cells.{meanings, all_meant};
+ghost use Rattle.term_heap.specs.Once.{AreKept, once_of, atom_of};
 
 use crate::cell::{Cell, TermId};
+use crate::known::Known;
 use crate::texts::place_of;
 use ej_term::Text;
 use indexmap::IndexSet;
@@ -16,14 +18,20 @@ pub struct Heap {
     atoms: IndexSet<Text>,
     parts: Vec<TermId>,
     cells: Vec<Cell>,
+    once: Known,
+    named: Known,
     ghost meant: { is_some (meanings atoms.keys parts.items [] cells.items) ≡ true },
+    ghost once_stand: { AreKept once_of (all_meant atoms.keys parts.items cells.items) once.ids.items },
+    ghost named_stand: { AreKept (atom_of atoms.keys) (all_meant atoms.keys parts.items cells.items) named.ids.items },
 }
 
 impl Heap {
-    ghost use Rattle.std.specs.Prelude.{◌<◌, ◌≤◌, ◌+◌, ◌++◌, length, take, drop, slice_get, Some, IsSome, IfOk};
+    ghost use Rattle.std.specs.Prelude.{◌<◌, ◌≤◌, ◌+◌, ◌++◌, length, take, drop, slice_get, Some, IsSome, IfOk, OnOk, IfSome};
     ghost use Rattle.std.specs.Str.{chars};
     ghost use Rattle.term_heap.specs.Cells.{parts_of, terms_of};
-    ghost use Rattle.term_heap.specs.View.{terms_in, parts_in, texts_in, Holds, term_of, cell_term, Keeps};
+    ghost use Rattle.term_heap.specs.Once.{at, once_term};
+    ghost use Rattle.ej_term.specs.Term.{Term};
+    ghost use Rattle.term_heap.specs.View.{terms_in, parts_in, texts_in, Holds, Stands, term_of, cell_term, Keeps};
 
     /// A heap with no terms, which takes no memory. It keeps `alloc` for what is added.
     pub fn new(alloc: Global) -> Heap
@@ -34,6 +42,8 @@ impl Heap {
             atoms: IndexSet::new(alloc),
             parts: Vec::new(alloc),
             cells: Vec::new(alloc),
+            once: Known::new(alloc),
+            named: Known::new(alloc),
         }
     }
 
@@ -105,8 +115,46 @@ impl Heap {
         ensures keeps { Keeps self.old self.new }
         ensures terms { terms_in self.new ≡ terms_in self.old }
         ensures text { IfOk result (λ place. slice_get (texts_in self.new) place ≡ Some (chars text.now)) }
+        ensures tables { self.new.named ≡ self.old.named }
     {
         let text = Text::make(self.alloc, text)?;
         place_of(&mut self.atoms, text)
+    }
+
+    /// The id that is kept for a term that is made once, by its place.
+    pub(crate) fn kept(&self, place: usize) -> Option<TermId>
+        ensures kept { result ≡ at self.now.once.ids.items place }
+        ensures term { IfSome result (λ id. Stands self.now id (once_term place)) }
+    {
+        self.once.get(place)
+    }
+
+    /// The id that is kept for the atom of a text, by the text's place.
+    pub(crate) fn kept_name(&self, place: usize) -> Option<TermId>
+        ensures kept { result ≡ at self.now.named.ids.items place }
+        ensures term { IfSome result (λ id. slice_get (terms_in self.now) id.0 ≡ atom_of (texts_in self.now) place) }
+    {
+        self.named.get(place)
+    }
+
+    /// Keeps an id for the term that is made once, by its place.
+    pub(crate) fn keep(&mut self, place: usize, id: TermId) -> Result<(), AllocError>
+        requires { Stands self.old id (once_term place) }
+        ensures keeps { Keeps self.old self.new }
+        ensures terms { terms_in self.new ≡ terms_in self.old }
+        ensures kept { OnOk result (at self.new.once.ids.items place ≡ Some id) }
+    {
+        self.once.set(place, id)
+    }
+
+    /// Keeps an id for the atom of a text, by the text's place.
+    pub(crate) fn keep_name(&mut self, place: usize, id: TermId) -> Result<(), AllocError>
+        requires atom { (t : Term) × (atom_of (texts_in self.old) place ≡ Some t) × Stands self.old id t }
+        ensures keeps { Keeps self.old self.new }
+        ensures terms { terms_in self.new ≡ terms_in self.old }
+        ensures texts { texts_in self.new ≡ texts_in self.old }
+        ensures kept { OnOk result (at self.new.named.ids.items place ≡ Some id) }
+    {
+        self.named.set(place, id)
     }
 }

@@ -7,8 +7,10 @@
 
 mod cell;
 mod heap;
+mod known;
 mod load;
 mod makers;
+mod once;
 mod order;
 mod sort;
 mod texts;

@@ -17,31 +17,6 @@ use std::alloc::AllocError;
 // Each of these stands for the term of its arguments, whose ids are ones of the heap, and keeps the term of every
 // earlier id, also where there was no memory.
 impl Heap {
-    /// An integer.
-    pub fn int(&mut self, n: i64) -> Result<TermId, AllocError>
-        ensures keeps { Keeps self.old self.new }
-        ensures term { IfOk result (λ id. Stands self.new id (term.Int n)) }
-    {
-        self.push(Cell::Int(n))
-    }
-
-    /// The atom of this text.
-    pub fn atom(&mut self, text: &str) -> Result<TermId, AllocError>
-        ensures keeps { Keeps self.old self.new }
-        ensures term { IfOk result (λ id. Stands self.new id (term.Atom (chars text.now))) }
-    {
-        let place = self.push_text(text)?;
-        self.push(Cell::Atom(place))
-    }
-
-    /// The empty list.
-    pub fn nil(&mut self) -> Result<TermId, AllocError>
-        ensures keeps { Keeps self.old self.new }
-        ensures term { IfOk result (λ id. Stands self.new id term.Nil) }
-    {
-        self.push(Cell::Nil)
-    }
-
     /// The list of this head and tail.
     pub fn cons(&mut self, head: TermId, tail: TermId) -> Result<TermId, AllocError>
         requires head { Holds self.old head }
