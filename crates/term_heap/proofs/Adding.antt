@@ -1,5 +1,5 @@
 -- Adding to the lists of a heap.
-use Rattle.std.proofs.Common.{◌≡◌, ℕ, ◌<◌, Bool, true, false, if◌then◌else◌, List, [], ◌∷◌, ◌++◌, length, drop, slice_get, Option, Some, unwrap_or, is_some, refl, sym, ap, subst, ◌∙◌}
+use Rattle.std.proofs.Common.{◌≡◌, ℕ, ◌<◌, Bool, true, false, if◌then◌else◌, List, [], ◌∷◌, ◌++◌, length, take, drop, slice_get, Option, Some, unwrap_or, is_some, refl, sym, ap, subst, ◌∙◌}
 use Rattle.std.specs.Prelude as std
 use Rattle.std.specs.Prelude.{IsSome}
 use Rattle.std.proofs.lemmas.Option.{slice_get_within}
@@ -11,7 +11,7 @@ use Rattle.ej_term.specs.Term.{Term, Nil}
 use Rattle.term_heap.specs.Cells.{meaning, meanings, Extends}
 use Rattle.term_heap.specs.declared.cell.TermId.{TermId}
 use Rattle.term_heap.specs.declared.cell.Cell.{Cell}
-use Rattle.term_heap.proofs.Meanings.{nth-behind, meanings-push, meanings-more, meanings-from, meanings-at}
+use Rattle.term_heap.proofs.Meanings.{nth-behind, meanings-push, meanings-more, meanings-from, meanings-at, meanings-before}
 
 pub known : {X : Type 0} (o : Option X) (d : X) → is_some o ≡ true → o ≡ Some (unwrap_or o d)
 known std.None d e = absurd (true≢false (sym e))
@@ -104,6 +104,12 @@ pub cell-is : (us : List (List ℕ)) (ps : List TermId) (cells : List Cell) (pla
 cell-is us ps cells place cell m g =
     let r = cell-term us ps cells place cell m g in
     r.1 ∙ ap (λ o. Some (unwrap_or o Nil)) (sym r.2)
+
+-- it has it by the terms in front of its place
+pub cell-before : (us : List (List ℕ)) (ps : List TermId) (cells : List Cell) (place : ℕ) (cell : Cell) → Meant us ps cells → slice_get cells place ≡ Some cell → IsSome (meaning us ps (take place (seen us ps cells)) cell)
+cell-before us ps cells place cell m g =
+    let r = meanings-before us ps [] cells (seen us ps cells) place cell (known (meanings us ps [] cells) [] m) g in
+    is-known _ r.0 (ap (λ k. meaning us ps (take k (seen us ps cells)) cell) (sym (zero-add place)) ∙ r.1)
 
 -- an id that is held is below the count of cells
 pub held-within : (us : List (List ℕ)) (ps : List TermId) (cells : List Cell) (place : ℕ) → Meant us ps cells → IsSome (slice_get (seen us ps cells) place) → place < length cells

@@ -1,10 +1,11 @@
 -- What is added to a heap changes no earlier term.
-use Rattle.std.proofs.Common.{◌≡◌, ℕ, ◌+◌, ◌*◌, List, [], ◌∷◌, ◌++◌, length, map, slice_get, Option, Some, option_map, option_and_then, unwrap_or, refl, sym, ap, ap₂, subst, ◌∙◌, zero, suc, arith}
+use Rattle.std.proofs.Common.{◌≡◌, ℕ, ◌+◌, ◌*◌, List, [], ◌∷◌, ◌++◌, length, map, take, slice_get, Option, Some, option_map, option_and_then, unwrap_or, refl, sym, ap, ap₂, subst, ◌∙◌, zero, suc, arith}
 use Rattle.std.specs.Prelude as std
 use Rattle.std.proofs.lemmas.Option.{none-some}
 use Rattle.std.proofs.lemmas.Grind.{common_steps}
 use Rattle.std.proofs.lemmas.List.{append-nil, append_assoc, length-append}
 use Rattle.std.proofs.Math.Nat.{add-zero}
+use Rattle.std.proofs.Math.Seq.{take-append_seam}
 use Rattle.ej_term.specs.Term.{Term, Atom, Fun, Tuple, Cons, terms}
 use Rattle.ej_term.specs.AsmValue.{every}
 use Rattle.ej_term.proofs.Options.{mapped, chained, first-every}
@@ -135,3 +136,22 @@ meanings-at us ps xs (first ∷ cells) ts (suc place) cell e g =
     let r = meanings-at us ps (xs ++ f.0 ∷ []) cells ts place cell f.2 g in
     let n : length (xs ++ f.0 ∷ []) + place ≡ length xs + suc place = omega (arith, length-append xs (f.0 ∷ [])) in
     (r.0, r.1, ap (slice_get ts) (sym n) ∙ r.2)
+
+-- a cell has its term by the terms in front of its place alone
+pub meanings-before : (us : List (List ℕ)) (ps : List TermId) (xs : List Term) (cells : List Cell) (ts : List Term) (place : ℕ) (cell : Cell)
+    → meanings us ps xs cells ≡ Some ts → slice_get cells place ≡ Some cell → (t : Term) × (meaning us ps (take (length xs + place) ts) cell ≡ Some t)
+meanings-before us ps xs [] ts place cell e g = absurd (none-some cell g)
+meanings-before us ps xs (first ∷ cells) ts zero cell e g =
+    let f = chained (λ y. meanings us ps (xs ++ y ∷ []) cells) (meaning us ps xs first) ts e in
+    let r = meanings-from us ps (xs ++ f.0 ∷ []) cells ts f.2 in
+    let is = ap (λ o. unwrap_or o cell) g in
+    let whole : ts ≡ xs ++ f.0 ∷ r.0 = r.1 ∙ append_assoc xs (f.0 ∷ []) r.0 in
+    let front : take (length xs + zero) ts ≡ xs = ap₂ take (add-zero (length xs)) whole ∙ take-append_seam xs (f.0 ∷ r.0) in (
+      f.0,
+      subst (λ (zs : List Term). meaning us ps zs cell ≡ Some f.0) (sym front) (subst (λ (d : Cell). meaning us ps xs d ≡ Some f.0) is f.1),
+    )
+meanings-before us ps xs (first ∷ cells) ts (suc place) cell e g =
+    let f = chained (λ y. meanings us ps (xs ++ y ∷ []) cells) (meaning us ps xs first) ts e in
+    let r = meanings-before us ps (xs ++ f.0 ∷ []) cells ts place cell f.2 g in
+    let n : length (xs ++ f.0 ∷ []) + place ≡ length xs + suc place = omega (arith, length-append xs (f.0 ∷ [])) in
+    (r.0, ap (λ k. meaning us ps (take k ts) cell) (sym n) ∙ r.1)

@@ -37,3 +37,8 @@ abbrev pub Loads : Heap → AsmTerm → Result TermId LoadFault → Type 0
 Loads heap t (Ok id) = IsLoaded heap t id
 Loads heap t (Err fault.Opaque) = has_opaque t ≡ true
 Loads heap t (Err fault.NoMemory) = Unit {0}
+
+-- where an opaque token is in a term, the heap is as it was
+abbrev pub Untouched : Result TermId LoadFault → Heap → Heap → Type 0
+Untouched (Err fault.Opaque) old new = new ≡ old
+Untouched _ old new = Unit {0}

@@ -1,5 +1,5 @@
 -- A heap as the terms that its ids stand for.
-use Rattle.std.specs.Prelude.{◌≡◌, ℕ, List, slice_get, Option, Some, unwrap_or, IsSome}
+use Rattle.std.specs.Prelude.{◌≡◌, ℕ, List, take, slice_get, Option, Some, unwrap_or, IsSome}
 use Rattle.ej_term.specs.Term.{Term, Nil}
 use Rattle.term_heap.specs.Cells.{meaning, all_meant, Extends}
 use Rattle.term_heap.specs.declared.cell.TermId.{TermId}
@@ -33,6 +33,10 @@ term_of heap id = unwrap_or (slice_get (terms_in heap) id.0) Nil
 -- the term of a cell, by the ids and places that it names
 abbrev pub cell_term : Heap → Cell → Option Term
 cell_term heap cell = meaning (texts_in heap) (parts_in heap) (terms_in heap) cell
+
+-- the cell of an id names ids below it alone: it has a term by the terms of these
+abbrev pub NamesEarlier : Heap → TermId → Cell → Type 0
+NamesEarlier heap id cell = IsSome (meaning (texts_in heap) (parts_in heap) (take id.0 (terms_in heap)) cell)
 
 -- each earlier id keeps its term, and each place its part or text
 pub record Keeps (old new : Heap) : Type 0 where

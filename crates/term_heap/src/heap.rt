@@ -31,7 +31,7 @@ impl Heap {
     ghost use Rattle.term_heap.specs.Cells.{parts_of, terms_of};
     ghost use Rattle.term_heap.specs.Once.{at, once_term};
     ghost use Rattle.ej_term.specs.Term.{Term};
-    ghost use Rattle.term_heap.specs.View.{terms_in, parts_in, texts_in, Holds, Stands, term_of, cell_term, Keeps};
+    ghost use Rattle.term_heap.specs.View.{terms_in, parts_in, texts_in, Holds, Stands, term_of, cell_term, NamesEarlier, Keeps};
 
     /// A heap with no terms, which takes no memory. It keeps `alloc` for what is added.
     pub fn new(alloc: Global) -> Heap
@@ -47,10 +47,11 @@ impl Heap {
         }
     }
 
-    /// The cell of an id, which is one of this heap.
+    /// The cell of an id, which is one of this heap. It names ids below its own alone.
     pub fn cell(&self, id: TermId) -> &Cell
         requires { Holds self.now id }
-        ensures { cell_term self.now result.now ≡ Some (term_of self.now id) }
+        ensures term { cell_term self.now result.now ≡ Some (term_of self.now id) }
+        ensures earlier { NamesEarlier self.now id result.now }
     {
         &self.cells[id.place()]
     }

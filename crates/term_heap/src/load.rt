@@ -7,7 +7,7 @@ ghost use Rattle.ej_term.specs.Outcome.{number};
 ghost use Rattle.term_heap.specs.View.{Holds, Stands, term_of, Keeps};
 ghost use Rattle.term_heap.specs.Held.{HoldsEach, terms_at};
 ghost use Rattle.term_heap.specs.Entries.{HoldsEntries, entries_at};
-ghost use Rattle.term_heap.specs.Loaded.{IsLoaded, IsTailLoaded, AreLoaded, ArePairsLoaded, Loads};
+ghost use Rattle.term_heap.specs.Loaded.{IsLoaded, IsTailLoaded, AreLoaded, ArePairsLoaded, Loads, Untouched};
 
 use crate::cell::TermId;
 use crate::heap::Heap;
@@ -44,10 +44,11 @@ impl Heap {
     /// the later wins. It goes as deep as tuples, lists and maps are nested in the source.
     ///
     /// # Errors
-    /// `Opaque` exactly where an opaque token is in the term; nothing is added then.
+    /// `Opaque` exactly where an opaque token is in the term; the heap is as it was then.
     pub fn load(&mut self, t: &AsmTerm) -> Result<TermId, LoadFault>
         ensures keeps { Keeps self.old self.new }
         ensures loads { Loads self.new t.now result }
+        ensures untouched { Untouched result self.old self.new }
     {
         if t.has_opaque() {
             return Err(LoadFault::Opaque);

@@ -14,7 +14,7 @@ pub returns-in-Terms-2 : goal.returns-in-Terms-2
 returns-in-Terms-2 c =
     subst (λ (k : Work). IfOk c.compare_cells.result (λ o. Stepped (parts_in c.args.heap.now) (terms_in c.args.heap.now) k o c.args.pending.now.items c.compare_cells.new.pending.items)) (sym c.in-Terms-2.is)
     (stepped-terms (texts_in c.args.heap.now) (parts_in c.args.heap.now) (terms_in c.args.heap.now) c.in-Terms-2.a c.in-Terms-2.b c.cell.result.now c.cell-in-Terms-2.result.now c.compare_cells.result
-    c.args.pending.now.items c.compare_cells.new.pending.items c.cell.ensures c.cell-in-Terms-2.ensures c.compare_cells.ensures.order c.compare_cells.ensures.works)
+    c.args.pending.now.items c.compare_cells.new.pending.items c.cell.ensures.term c.cell-in-Terms-2.ensures.term c.compare_cells.ensures.order c.compare_cells.ensures.works)
 
 pub returns-in-Runs : goal.returns-in-Runs
 returns-in-Runs c = same-runs (parts_in c.args.heap.now) (terms_in c.args.heap.now) c.args.work c.in-Runs.first c.in-Runs.other c.in-Runs.field-2 c.args.pending.now.items c.in-Runs.is c.if-first-other.true
