@@ -41,12 +41,12 @@ module _ {T : Type 0} where
   pub fits-says : (lists : List (List T)) (node : Node T) → fits lists node ≡ true → Fits lists node
   fits-says lists node e =
       let a = and_parts _ _ e in
-      let b = and_parts _ _ a.1 in
-      let d = and_parts _ _ b.1 in
-      record { left = ltb-true _ _ a.0; right = ltb-true _ _ b.0; len = eqb-true _ _ d.0; bound = ltb-true _ _ d.1 }
+      let b = and_parts _ _ a.0 in
+      let d = and_parts _ _ b.0 in
+      record { left = ltb-true _ _ d.0; right = ltb-true _ _ d.1; len = eqb-true _ _ b.1; bound = ltb-true _ _ a.1 }
 
   pub fits-from : (lists : List (List T)) (node : Node T) → Fits lists node → fits lists node ≡ true
-  fits-from lists node f = and_from _ _ (lt-ltb _ _ f.left) (and_from _ _ (lt-ltb _ _ f.right) (and_from _ _ (eq-eqb _ _ f.len) (lt-ltb _ _ f.bound)))
+  fits-from lists node f = and_from _ _ (and_from _ _ (and_from _ _ (lt-ltb _ _ f.left) (lt-ltb _ _ f.right)) (eq-eqb _ _ f.len)) (lt-ltb _ _ f.bound)
 
   -- the first lists stay, and there is one more for each node
   pub grown-from : (xs : List (List T)) (nodes : List (Node T)) → (ys : List (List T)) × (grown xs nodes ≡ xs ++ ys) × (length ys ≡ length nodes)
