@@ -1,5 +1,5 @@
 -- What the nodes of a forest stand for, as nodes are added.
-use Rattle.std.proofs.Common.{◌≡◌, ℕ, ◌+◌, ◌<◌, ◌^◌, Bool, true, ◌&&◌, List, [], ◌∷◌, ◌++◌, length, drop, get_or, slice_get, Option, Some, unwrap_or, refl, sym, ap, ap₂, subst, ◌∙◌, zero, suc, arith}
+use Rattle.std.proofs.Common.{◌≡◌, ℕ, ◌+◌, ◌<◌, ◌^◌, true, List, [], ◌∷◌, ◌++◌, length, drop, slice_get, Some, refl, sym, ap, ap₂, subst, ◌∙◌, zero, suc, arith}
 use Rattle.std.proofs.lemmas.Option.{none-some, same_Some}
 use Rattle.std.proofs.lemmas.Bool.{and_parts, and_from, ltb-true, lt-ltb, eqb-true, eq-eqb}
 use Rattle.std.proofs.lemmas.List.{append-nil, append_assoc, length-append}
@@ -81,11 +81,11 @@ module _ {T : Type 0} where
       let same : items (xs ++ items xs first ∷ r.0) first ≡ items xs first = items-more xs (items xs first ∷ r.0) first f.left f.right in
       let long : length (xs ++ items xs first ∷ r.0) ≡ length xs + length (items xs first ∷ r.0) = length-append xs (items xs first ∷ r.0) in
       subst (λ (n : Node T). (list_at (grown (xs ++ items xs first ∷ []) nodes) (length xs + zero) ≡ items (grown (xs ++ items xs first ∷ []) nodes) n) × Fits (grown (xs ++ items xs first ∷ []) nodes) n)
-          (same_Some first node g)
-          (subst (λ (zs : List (List T)). (list_at zs (length xs + zero) ≡ items zs first) × Fits zs first) (sym whole) (
-            ap (list_at (xs ++ items xs first ∷ r.0)) {y = length xs} (omega arith) ∙ get_or-append_seam xs (items xs first) r.0 [] ∙ sym same,
-            record { left = omega (arith, f.left, long); right = omega (arith, f.right, long); len = f.len ∙ ap length (sym same); bound = f.bound },
-          ))
+      (same_Some first node g)
+      (subst (λ (zs : List (List T)). (list_at zs (length xs + zero) ≡ items zs first) × Fits zs first) (sym whole) (
+        ap (list_at (xs ++ items xs first ∷ r.0)) {y = length xs} (omega arith) ∙ get_or-append_seam xs (items xs first) r.0 [] ∙ sym same,
+        record { left = omega (arith, f.left, long); right = omega (arith, f.right, long); len = f.len ∙ ap length (sym same); bound = f.bound },
+      ))
   node-at xs (first ∷ nodes) (suc place) node s g =
       let p = and_parts (fits xs first) (sound (xs ++ items xs first ∷ []) nodes) s in
       let r = node-at (xs ++ items xs first ∷ []) nodes place node p.1 g in

@@ -1,11 +1,10 @@
 -- Nodes by the numbers of their lists, and the adding of one.
-use Rattle.std.proofs.Common.{◌≡◌, ℕ, ◌+◌, ◌<◌, ◌^◌, Bool, true, false, if◌then◌else◌, List, [], ◌∷◌, ◌++◌, length, get_or, slice_get, Some, refl, sym, ap, ap₂, subst, ◌∙◌, zero, suc, arith}
-use Rattle.std.proofs.lemmas.Option.{slice_get-get_or}
+use Rattle.std.proofs.Common.{◌≡◌, ℕ, ◌+◌, ◌<◌, ◌^◌, Bool, true, false, if◌then◌else◌, List, [], ◌∷◌, ◌++◌, length, slice_get, Some, refl, sym, ap, ap₂, subst, ◌∙◌, zero, suc, arith}
 use Rattle.std.proofs.lemmas.List.{append-nil, length-append}
 use Rattle.std.proofs.Math.Seq.{get_or-append_seam}
 use Rattle.forest.specs.declared.node.Node.{Node}
 use Rattle.forest.specs.Lists.{list_at, items, grown, sound, Extends}
-use Rattle.forest.proofs.Growing.{extends-by, extends-itself, Fits, fits-from, grown-from, length-grown, grown-push, sound-push, node-at}
+use Rattle.forest.proofs.Growing.{extends-by, Fits, fits-from, grown-from, length-grown, grown-push, sound-push, node-at}
 
 module _ {T : Type 0} where
   abbrev pub lists : List (Node T) → List (List T)
@@ -41,6 +40,7 @@ module _ {T : Type 0} where
       node_at [] p lt = absurd (omega (arith, lt))
       node_at (n ∷ ns) zero lt = (n, refl)
       node_at (n ∷ ns) (suc p) lt = node_at ns p (omega (arith, lt))
+
       first : (nodes : List (Node T)) (place : ℕ) → place < length nodes → Sound nodes → (node : Node T) × (slice_get nodes place ≡ Some node) → length (list_at (lists nodes) (suc place)) < 2 ^ 31
       first nodes place within s (node, g) =
           let r = node-of nodes (suc place) place node s refl g in

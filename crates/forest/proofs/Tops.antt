@@ -1,12 +1,12 @@
 -- The tops of lists.
-use Rattle.std.proofs.Common.{◌≡◌, ℕ, ◌+◌, ◌<◌, ◌^◌, List, [], ◌∷◌, ◌++◌, length, sym, ap, ap₂, subst, ◌∙◌, suc, arith}
+use Rattle.std.proofs.Common.{◌≡◌, ◌+◌, ◌<◌, ◌^◌, ◌∷◌, ◌++◌, length, sym, ap, ap₂, subst, ◌∙◌, arith}
 use Rattle.std.proofs.lemmas.List.{length-append}
 use Rattle.forest.specs.declared.node.Node.{Node}
 use Rattle.forest.specs.declared.tree.Tree.{Tree}
 use Rattle.forest.specs.declared.tree.Top.{Top}
 use Rattle.forest.specs.declared.forest.Forest.{Forest}
 use Rattle.forest.specs.Lists.{list_at, items}
-use Rattle.forest.specs.View.{lists_in, list_of, Holds, items_of, IsTopOf}
+use Rattle.forest.specs.View.{lists_in, list_of, Holds, IsTopOf}
 use Rattle.forest.proofs.Growing.{Fits}
 use Rattle.forest.proofs.Placing.{list-fits, length-lists}
 
@@ -15,14 +15,12 @@ module _ {T : Type 0} where
       → IsTopOf forest tree (record { left = left; item = node.item; right = right })
   top-of forest tree node left right is f l r =
       let whole : list_of forest tree ≡ list_of forest left ++ node.item ∷ list_of forest right =
-          is ∙ sym (ap₂ (λ m n. list_at (lists_in forest) m ++ node.item ∷ list_at (lists_in forest) n) l r) in
-      let long = ap length whole ∙ length-append (list_of forest left) (node.item ∷ list_of forest right) in
+      is ∙ sym (ap₂ (λ m n. list_at (lists_in forest) m ++ node.item ∷ list_at (lists_in forest) n) l r) in
       record {
         items = whole;
         left = subst (λ n. n < length (lists_in forest)) (sym l) f.left;
         right = subst (λ n. n < length (lists_in forest)) (sym r) f.right;
-        left_shorter = omega (arith, long);
-        right_shorter = omega (arith, long);
+        lengths = omega (arith, ap length whole ∙ length-append (list_of forest left) (node.item ∷ list_of forest right));
       }
 
   -- a list that is held is short, and so is its number

@@ -1,5 +1,5 @@
 -- A forest as the lists that its numbers stand for.
-use Rattle.std.specs.Prelude.{◌≡◌, ◌<◌, List, [], ◌∷◌, ◌++◌, length}
+use Rattle.std.specs.Prelude.{◌≡◌, ◌+◌, ◌<◌, List, [], ◌∷◌, ◌++◌, length}
 use Rattle.forest.specs.Lists.{list_at, grown, Extends}
 use Rattle.forest.specs.declared.tree.Tree.{Tree}
 use Rattle.forest.specs.declared.tree.Top.{Top}
@@ -30,10 +30,9 @@ module _ {T : Type 0} where
   abbrev pub items_of : Forest T → Top T → List T
   items_of forest top = list_of forest top.left ++ top.item ∷ list_of forest top.right
 
-  -- the list is that of these items, both lists beside the item are ones of the forest, and each is shorter
+  -- the list is that of these items, and both lists beside the item, which are shorter, are ones of the forest
   pub record IsTopOf (forest : Forest T) (tree : Tree) (top : Top T) : Type 0 where
     pub items : list_of forest tree ≡ items_of forest top
     pub left : Holds forest top.left
     pub right : Holds forest top.right
-    pub left_shorter : length (list_of forest top.left) < length (list_of forest tree)
-    pub right_shorter : length (list_of forest top.right) < length (list_of forest tree)
+    pub lengths : length (list_of forest top.left) + length (list_of forest top.right) + 1 ≡ length (list_of forest tree)

@@ -16,12 +16,7 @@ const INNER: usize = 2;
 // These only join, in order, the items that they take. Which nodes they make of them is speed.
 impl<T: Copy> Forest<T> {
     /// The list of these items, as a new node.
-    pub(crate) fn join(
-        &mut self,
-        left: Tree,
-        item: T,
-        right: Tree,
-    ) -> Result<Tree, AllocError>
+    pub(crate) fn join(&mut self, left: Tree, item: T, right: Tree) -> Result<Tree, AllocError>
         requires left { Holds self.old left }
         requires right { Holds self.old right }
         ensures keeps { Keeps self.old self.new }
@@ -32,12 +27,7 @@ impl<T: Copy> Forest<T> {
     }
 
     /// The same items under another root: the left one's, or that of its inner part.
-    fn turned_right(
-        &mut self,
-        left: Top<T>,
-        item: T,
-        right: Tree,
-    ) -> Result<Top<T>, AllocError>
+    fn turned_right(&mut self, left: Top<T>, item: T, right: Tree) -> Result<Top<T>, AllocError>
         requires left { HoldsTop self.old left }
         requires right { Holds self.old right }
         ensures keeps { Keeps self.old self.new }
@@ -64,12 +54,7 @@ impl<T: Copy> Forest<T> {
     }
 
     /// The same items under another root: the right one's, or that of its inner part.
-    fn turned_left(
-        &mut self,
-        left: Tree,
-        item: T,
-        right: Top<T>,
-    ) -> Result<Top<T>, AllocError>
+    fn turned_left(&mut self, left: Tree, item: T, right: Top<T>) -> Result<Top<T>, AllocError>
         requires left { Holds self.old left }
         requires right { HoldsTop self.old right }
         ensures keeps { Keeps self.old self.new }
@@ -138,12 +123,7 @@ impl<T: Copy> Forest<T> {
     }
 
     /// The items of two lists, of which one has lost an item, and an item between them.
-    pub(crate) fn balanced(
-        &mut self,
-        left: Tree,
-        item: T,
-        right: Tree,
-    ) -> Result<Tree, AllocError>
+    pub(crate) fn balanced(&mut self, left: Tree, item: T, right: Tree) -> Result<Tree, AllocError>
         requires left { Holds self.old left }
         requires right { Holds self.old right }
         ensures keeps { Keeps self.old self.new }

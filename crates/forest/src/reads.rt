@@ -8,13 +8,11 @@ use crate::tree::Tree;
 
 impl<T: Copy> Forest<T> {
     /// The item at a place from 0 of a list, by a way down its tree.
-    pub fn get(&self, tree: Tree, place: usize) -> T
+    pub fn get(&self, mut tree: Tree, mut place: usize) -> T
         requires tree { Holds self.now tree }
         requires place { place < length (list_of self.now tree) }
         ensures { slice_get (list_of self.now tree) place ≡ Some result }
     {
-        let mut tree = tree;
-        let mut place = place;
         while let Some(top) = self.top(tree) {
             let before = self.len(top.left);
             if place == before {

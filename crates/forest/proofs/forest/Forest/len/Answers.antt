@@ -1,6 +1,6 @@
-use Rattle.std.proofs.Common.{◌≡◌, ◌<◌, ◌-◌, length, suc, refl, sym, ap, subst, ◌∙◌, arith}
+use Rattle.std.proofs.Common.{◌≡◌, ◌<◌, ◌-◌, length, suc, refl, sym, ap, ◌∙◌, arith}
 use Rattle.std.proofs.lemmas.Option.{slice_get_read}
-use Rattle.forest.proofs.Placing.{lists, length-lists, empty-list, list-fits, node-of}
+use Rattle.forest.proofs.Placing.{length-lists, empty-list, list-fits, node-of}
 use Rattle.forest.proofs.forest.Forest.len.Goals as goal
 
 pub index-requires : goal.index-requires

@@ -1,4 +1,4 @@
-use Rattle.std.proofs.Common.{◌≡◌, ◌<◌, ◌+◌, length, suc, is_ok, refl, sym, ap, ap₂, ◌++◌, ◌∷◌, ◌∙◌, arith}
+use Rattle.std.proofs.Common.{◌+◌, is_ok, refl, ap₂, ◌++◌, ◌∷◌, ◌∙◌, arith}
 use Rattle.forest.specs.Lists.{list_at}
 use Rattle.forest.specs.View.{lists_in}
 use Rattle.forest.proofs.Placing.{pushed-sound, pushed-few, pushed-keeps, pushed-held, pushed-list}

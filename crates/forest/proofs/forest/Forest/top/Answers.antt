@@ -1,7 +1,6 @@
-use Rattle.std.proofs.Common.{◌≡◌, ◌<◌, ◌-◌, length, suc, refl, sym, ap, ap₂, ◌∙◌, arith}
+use Rattle.std.proofs.Common.{◌≡◌, ◌<◌, ◌-◌, length, suc, refl, sym, ◌∙◌, arith}
 use Rattle.std.proofs.lemmas.Option.{slice_get_read}
-use Rattle.forest.specs.Lists.{list_at}
-use Rattle.forest.proofs.Placing.{lists, length-lists, empty-list, node-of}
+use Rattle.forest.proofs.Placing.{length-lists, empty-list, node-of}
 use Rattle.forest.proofs.Tops.{top-of}
 use Rattle.forest.proofs.forest.Forest.top.Goals as goal
 
