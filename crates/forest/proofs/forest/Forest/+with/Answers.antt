@@ -1,14 +1,14 @@
 use Rattle.std.proofs.Common.{arith, ◌∙◌}
 use Rattle.std.proofs.lemmas.Result.{IfOk-weaker}
 use Rattle.forest.specs.View.{list_of}
-use Rattle.forest.proofs.Keeping.{kept, empty}
+use Rattle.forest.proofs.Keeping.{kept}
 use Rattle.forest.proofs.Places.{insert-before, insert-behind, insert-only}
 use Rattle.forest.proofs.forest.Forest.+with.Goals as goal
 
 pub returns-in_default-clause-items : goal.returns-in_default-clause-items
 returns-in_default-clause-items g t c =
     let old = c.args.self.now in
-    insert-only (list_of old c.args.tree) _ _ c.args.place c.args.item c.in_default.ensures (empty old c.empty.result c.empty.ensures) (empty old c.empty-in_default.result c.empty-in_default.ensures) c.requires.place
+    insert-only (list_of old c.args.tree) _ _ c.args.place c.args.item c.in_default.ensures c.empty.ensures.list c.empty-in_default.ensures.list c.requires.place
 
 pub returns-in_ok-left-clause-items : goal.returns-in_ok-left-clause-items
 returns-in_ok-left-clause-items g t c =
