@@ -7,11 +7,13 @@ use crate::node::Node;
 use crate::tree::{Top, Tree};
 use std::alloc::{AllocError, Global};
 
-/// Lists by their numbers. What it keeps is never given back before the forest itself. It keeps less than 2^31 nodes,
-/// and each list has less than 2^31 items.
+// A forest has less than so many nodes, and a list less than so many items.
+const BOUND: usize = 1 << 31;
+
+/// Lists by their numbers, a node for each but the empty one. What it keeps is never given back before the forest
+/// itself. It keeps less than 2^31 nodes, and each list has less than 2^31 items.
 #[derive(Debug, Drop)]
 pub struct Forest<T> {
-    alloc: Global,
     nodes: Vec<Node<T>>,
     ghost few: { length nodes.items < 2 ^ 31 },
     ghost grows: { sound ([] ∷ []) nodes.items ≡ true },
@@ -26,7 +28,6 @@ impl<T: Copy> Forest<T> {
         ensures { lists_in result ≡ [] ∷ [] }
     {
         Forest {
-            alloc,
             nodes: Vec::new(alloc),
         }
     }
@@ -82,10 +83,10 @@ impl<T: Copy> Forest<T> {
     {
         let len = self.len(top.left) + self.len(top.right) + 1;
         let place = self.nodes.len();
-        if len >= 1 << 31 {
+        if len >= BOUND {
             return Err(AllocError);
         }
-        if place >= (1 << 31) - 1 {
+        if place + 1 >= BOUND {
             return Err(AllocError);
         }
         self.nodes.push(Node {

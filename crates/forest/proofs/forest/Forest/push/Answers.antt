@@ -9,9 +9,9 @@ pub invariant_of-self : goal.invariant_of-self
 invariant_of-self g c =
     let old = c.args.self.now in
     record {
-      few = pushed-few (is_ok c.push.result) old.nodes.items c.push.new.self.items _ (omega (arith, old.nodes.ok.0, c.len-place.ensures, c.if-place.false)) c.push.ensures.items;
+      few = pushed-few (is_ok c.push.result) old.nodes.items c.push.new.self.items _ (omega (arith, old.nodes.ok.0, c.len-place.ensures, c.if-place-ge-BOUND.false)) c.push.ensures.items;
       grows = pushed-sound (is_ok c.push.result) old.nodes.items c.push.new.self.items _ old.grows
-          (made-fits old c.args.top _ c.number.ensures c.number-2.ensures refl (ap₂ (λ m n. m + n + 1) c.len.ensures.len c.len-2.ensures.len) c.if-len.false c.requires) c.push.ensures.items;
+          (made-fits old c.args.top _ c.number.ensures c.number-2.ensures refl (ap₂ (λ m n. m + n + 1) c.len.ensures.len c.len-2.ensures.len) c.if-len-ge-BOUND.false c.requires) c.push.ensures.items;
     }
 
 pub returns-clause-keeps : goal.returns-clause-keeps
