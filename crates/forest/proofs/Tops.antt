@@ -31,10 +31,10 @@ module _ {T : Type 0} where
   held-number-fits forest tree h = omega (arith, forest.few, h, length-lists forest.nodes.items)
 
   -- the node of a top
-  pub made-fits : (forest : Forest T) (top : Top T) (node : Node T) → node.left ≡ top.left.number → node.right ≡ top.right.number → node.item ≡ top.item
+  pub made-fits : (forest : Forest T) (top : Top T) (node : Node T) → node.left ≡ top.left.number → node.right ≡ top.right.number
       → node.len ≡ length (list_of forest top.left) + length (list_of forest top.right) + 1 → node.len < 2 ^ 31 → Holds forest top.left × Holds forest top.right
       → Fits (lists_in forest) node
-  made-fits forest top node l r i n short held = record {
+  made-fits forest top node l r n short held = record {
     left = subst (λ m. m < length (lists_in forest)) (sym l) held.0;
     right = subst (λ m. m < length (lists_in forest)) (sym r) held.1;
     len =

@@ -1,4 +1,4 @@
-use Rattle.std.proofs.Common.{◌+◌, is_ok, refl, ap₂, ◌++◌, ◌∷◌, ◌∙◌, arith}
+use Rattle.std.proofs.Common.{◌+◌, is_ok, ap₂, ◌++◌, ◌∷◌, ◌∙◌, arith}
 use Rattle.forest.specs.Lists.{list_at}
 use Rattle.forest.specs.View.{lists_in}
 use Rattle.forest.proofs.Placing.{pushed-sound, pushed-few, pushed-keeps, pushed-held, pushed-list}
@@ -11,7 +11,7 @@ invariant_of-self g c =
     record {
       few = pushed-few (is_ok c.push.result) old.nodes.items c.push.new.self.items _ (omega (arith, old.nodes.ok.0, c.len-place.ensures, c.if-place-ge-BOUND.false)) c.push.ensures.items;
       grows = pushed-sound (is_ok c.push.result) old.nodes.items c.push.new.self.items _ old.grows
-          (made-fits old c.args.top _ c.number.ensures c.number-2.ensures refl (ap₂ (λ m n. m + n + 1) c.len.ensures.len c.len-2.ensures.len) c.if-len-ge-BOUND.false c.requires) c.push.ensures.items;
+          (made-fits old c.args.top _ c.number.ensures c.number-2.ensures (ap₂ (λ m n. m + n + 1) c.len.ensures.len c.len-2.ensures.len) c.if-len-ge-BOUND.false c.requires) c.push.ensures.items;
     }
 
 pub returns-clause-keeps : goal.returns-clause-keeps
