@@ -1,0 +1,5 @@
+pub mod Growing
+pub mod Placing
+pub mod Tops
+pub mod Places
+pub mod Keeping
