@@ -111,7 +111,6 @@ stepped-tie ps ts work old tie positive = record {
   works = λ h. h;
 }
 
-
 have-weight : (ts : Terms) → 0 < weight_each ts
 have-weight None = omega arith
 have-weight (More first rest) = omega arith

@@ -14,8 +14,11 @@ use std::alloc::AllocError;
 
 // The places of the terms that are made once.
 const NIL: usize = 0;
+
 const FALSE: usize = 1;
+
 const TRUE: usize = 2;
+
 const ZERO: usize = 3;
 
 /// The least integer from 0 that is made again each time.

@@ -25,21 +25,7 @@ pub(crate) fn boolean(heap: &mut Heap, truth: bool) -> Result<PureAnswer, AllocE
     ensures keeps { Keeps heap.old heap.new }
     ensures answer { IfOk result (λ a. Gives heap.new a (Value (outcome.boolean truth))) }
 {
-    let atom = boolean_atom(heap, truth)?;
-    Ok(PureAnswer::Value(atom))
-}
-
-/// The atom that a boolean is.
-#[tactic(auto, using(crate::proofs::ReadWords::words))]
-fn boolean_atom(heap: &mut Heap, truth: bool) -> Result<TermId, AllocError>
-    ensures keeps { Keeps heap.old heap.new }
-    ensures term { IfOk result (λ id. Stands heap.new id (outcome.boolean truth)) }
-{
-    if truth {
-        heap.atom("true")
-    } else {
-        heap.atom("false")
-    }
+    Ok(PureAnswer::Value(heap.boolean(truth)?))
 }
 
 /// The exception of this class, with the term of an id as its reason.

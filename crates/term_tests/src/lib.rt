@@ -19,6 +19,7 @@ mod numbers;
 mod operations;
 #[cfg(test)]
 mod prints;
+mod sharing;
 #[cfg(test)]
 mod tables;
 #[cfg(test)]
