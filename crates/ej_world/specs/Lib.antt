@@ -2,6 +2,8 @@ pub mod Agree
 pub mod Auto
 pub mod Choices
 pub mod Delivery
+pub mod Lawful
 pub mod Order
 pub mod Runs
+pub mod Steps
 pub mod World
