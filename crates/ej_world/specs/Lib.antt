@@ -5,5 +5,6 @@ pub mod Delivery
 pub mod Lawful
 pub mod Order
 pub mod Runs
+pub mod Sound
 pub mod Steps
 pub mod World
