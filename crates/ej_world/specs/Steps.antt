@@ -1,13 +1,13 @@
 -- A run, taken apart: what happens at once, and what happens one after the other.
-use Rattle.std.specs.Prelude.{◌≡◌, ℕ, ◌≤◌, List, [], ◌∷◌, ◌++◌, Some}
+use Rattle.std.specs.Prelude.{◌≡◌, ℕ, ◌≤◌, true, List, [], ◌∷◌, ◌++◌, slice_get, Some}
 use Rattle.ej_term.specs.Term.{Term}
 use Rattle.ej_world.specs.declared.effect.Begin.{Begin}
 use Rattle.ej_world.specs.declared.event.Event.{Event}
 use Rattle.ej_world.specs.declared.event.Event.TheVariants as event
-use Rattle.ej_world.specs.Choices.{Code, System, Happened, nothing, start, run_process, delivered, at_clock, put_in}
+use Rattle.ej_world.specs.Choices.{Code, System, Happened, view_of, turned, nothing, start, run_process, delivered, at_clock, put_in}
 use Rattle.ej_world.specs.Lawful.{IsBegin}
 use Rattle.ej_world.specs.Runs.{Choice, choose}
-use Rattle.ej_world.specs.World.{limit, ready}
+use Rattle.ej_world.specs.World.{Process, limit, is_ready, ready}
 
 -- what happens at once
 pub data Step {S : Type 0} (code : Code S) (r : System S) : Happened S → Type 0 where
@@ -28,3 +28,12 @@ pub data Reaches {S : Type 0} (code : Code S) : System S → List (Event Term) �
 abbrev pub end_of : {S : Type 0} → Code S → System S → List Choice → System S
 end_of code r [] = r
 end_of code r (c ∷ cs) = end_of code (choose code r c).system cs
+
+-- a turn of the process of that number: it is ready, and its turn is of the view that it has of the world
+pub record IsTurn {S : Type 0} (code : Code S) (r : System S) (transfers number : ℕ) (h : Happened S) : Type 0 where
+  pub process : Process
+  pub state : S
+  pub at : slice_get r.world.processes number ≡ Some process
+  pub has : slice_get r.states number ≡ Some state
+  pub ready : is_ready r.world.clock process ≡ true
+  pub is : h ≡ turned code r number process (code.turn transfers (view_of r.world number process) state)
