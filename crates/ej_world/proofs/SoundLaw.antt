@@ -234,7 +234,7 @@ module _ {S : Type 0} (code : Code S) (IsState : States S) where
         cond_both (is_live p) (Some _) None SoundIf
         (λ e. set-sound IsState r.states r.world number p (with_message p message) at (message-sound (next_pid r.world) number p message one) (inl refl) sound) (λ e. tt)
 
-    step-sound : (r : System S) (h : Happened S) → Step code r h → Sound IsState r → Sound IsState h.system
+    pub step-sound : (r : System S) (h : Happened S) → Step code r h → Sound IsState r → Sound IsState h.system
     step-sound r _ Idles sound = sound
     step-sound r _ Closes sound = sound
     step-sound r _ (Starts how h is e) sound = start-sound r how h sound is e
@@ -250,6 +250,13 @@ module _ {S : Type 0} (code : Code S) (IsState : States S) where
     pub sound_stays : (r q : System S) (events : List (Event Term)) → Reaches code r events q → Sound IsState r → Sound IsState q
     sound_stays _ _ _ (Here r) sound = sound
     sound_stays _ q _ (Then r h events _ first rest) sound = sound_stays h.system q events rest (step-sound r h first sound)
+
+    -- each turn of what comes of the empty world is of a view that may be asked for a turn, and is lawful
+    pub reached_turn : (r : System S) (events : List (Event Term)) (transfers number : ℕ) (h : Happened S) → Reaches code (record { world = empty; states = [] }) events r → 1 ≤ transfers
+        → (t : IsTurn code r transfers number h) → MeetsView (view_of r.world number t.process) × LawfulTurn IsState (view_of r.world number t.process) (code.turn transfers (view_of r.world number t.process) t.state)
+    reached_turn r events transfers number h reached some t =
+        let sound = sound_stays _ r events reached empty_sound in
+        (view_meets r number t.process sound t.at t.ready, lawful_turn r transfers number h sound some t)
 
     -- what a run of what may be asked comes to, at each of its choices
     pub run_sound : (script : List Choice) → AreAsked script → Sound IsState (end_of code (record { world = empty; states = [] }) script)
