@@ -84,7 +84,7 @@ hits-one-row from to (n ∷ ms) ns one =
     by false one rest none = let h : hits from to (flat_map (λ n. row n ns) ms) ≡ times to ns = rest (omega arith) in omega arith
 
 -- a pair of numbers below is among the pairs once
-hits-pairs : (from to n : ℕ) → from < n → to < n → hits from to (pairs n) ≡ 1
+pub hits-pairs : (from to n : ℕ) → from < n → to < n → hits from to (pairs n) ≡ 1
 hits-pairs from to n one other = hits-one-row from to (below n) (below n) (times-one from n one) ∙ times-one to n other
 
 pub hits-at-most : (from to n : ℕ) → hits from to (pairs n) ≤ 1
