@@ -10,9 +10,10 @@ use Rattle.ej_world.specs.declared.event.Event.TheVariants as event
 use Rattle.ej_world.specs.Auto.{below, pairs, has_signal, first_pair, links_of_live, signals, behind, deliver_next, deliveries, all_delivered}
 use Rattle.ej_world.specs.Choices.{System, Happened, closed, of_change, delivered}
 use Rattle.ej_world.specs.Delivery.{is_atom, exit_message, dropped, appended, hit, exits, is_linked, without_link, breaks, to_live, to_process, with_queue, first_of, deliver}
-use Rattle.ej_world.specs.Sound.{SoundQueue}
+use Rattle.ej_world.specs.Lawful.{States}
+use Rattle.ej_world.specs.Sound.{SoundQueue, Sound}
 use Rattle.ej_world.specs.World.{Signal, Message, Link, Exit, Ended, Process, World, Queue, Change, next_pid, is_live, taken, put, with_signals, with_process, with_status, with_message}
-use Rattle.ej_world.proofs.SoundDelivery.{get_set}
+use Rattle.ej_world.proofs.SoundDelivery.{get_set, SoundEach, deliver-sound}
 use Rattle.ej_world.proofs.Sums.{hits, hits-pairs, hits-at-most, waiting, put-waits, taken-waits, linked, linked-set}
 
 -- ---- one delivery
@@ -218,3 +219,23 @@ nothing_waits w sound none from to = by (sound from to)
     by : (w.queue from to ≡ []) ⊎ ((from < next_pid w) × (to < next_pid w)) → w.queue from to ≡ []
     by (inl is) = is
     by (inr lt) = empty (w.queue from to) (at lt.0 lt.1)
+
+module _ {S : Type 0} (IsState : States S) where
+  sound-on : (n : ℕ) → ((r : System S) → Sound IsState r → Sound IsState (deliveries n r).system) → (r : System S) → Sound IsState r → (o : Option Change) → SoundEach IsState r.states o
+      → Sound IsState (deliver_next (deliveries n) r (option_map (of_change r.states) o)).system
+  sound-on n each r sound None after = sound
+  sound-on n each r sound (Some c) after = each (of_change r.states c).system after
+
+  sound-pair : (n : ℕ) → ((r : System S) → Sound IsState r → Sound IsState (deliveries n r).system) → (r : System S) → Sound IsState r → (o : Option (ℕ × ℕ))
+      → Sound IsState (deliver_next (deliveries n) r (option_and_then (λ (p : ℕ × ℕ). delivered r p.0 p.1) o)).system
+  sound-pair n each r sound None = sound
+  sound-pair n each r sound (Some p) = sound-on n each r sound (deliver r.world p.0 p.1) (deliver-sound IsState r.states r.world p.0 p.1 sound)
+
+  deliveries-sound : (most : ℕ) (r : System S) → Sound IsState r → Sound IsState (deliveries most r).system
+  deliveries-sound zero r sound = sound
+  deliveries-sound (suc n) r sound = sound-pair n (deliveries-sound n) r sound (first_pair r.world)
+
+  -- in a sound system all signals are delivered
+  pub all_are_delivered : (r : System S) → Sound IsState r → (from to : ℕ) → (all_delivered r).system.world.queue from to ≡ []
+  all_are_delivered r sound from to =
+      nothing_waits (all_delivered r).system.world (deliveries-sound (signals r.world) r sound).queue (all_delivered_end r) from to
