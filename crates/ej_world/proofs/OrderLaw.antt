@@ -10,7 +10,7 @@ use Rattle.ej_world.specs.declared.event.Event.{Event}
 use Rattle.ej_world.specs.declared.event.Event.TheVariants as event
 use Rattle.ej_world.specs.Choices.{Outcome, Runs, Waits, Ends as Ends', Turned, Code, System, Happened, view_of, depth_after, ending, turned, nothing, of_change, start, delivered, at_clock, input_to, put_in}
 use Rattle.ej_world.specs.Delivery.{is_atom, exit_message, dropped, appended, hit, exits, is_linked, without_link, breaks, to_live, to_process, with_queue, first_of, deliver}
-use Rattle.ej_world.specs.Lawful.{MayGive, MayGiveAll, made_by, States, Lawful, AreAsked}
+use Rattle.ej_world.specs.Lawful.{MayGive, MayGiveAll, next_after, live_after, States, Lawful, AreAsked}
 use Rattle.ej_world.specs.Order.{sent_by, sent, handled_by, handled, ShowsExit, Drops, Ends, Traps, Shows, Appends, Ignores, Breaks, Exits, Kills, ShowEach, InOrder}
 use Rattle.ej_world.specs.Runs.{Choice, run}
 use Rattle.ej_world.specs.Sound.{Sound}
@@ -254,7 +254,7 @@ module _ (from to : ℕ) where
   quiet-turn : (me next : ℕ) (live : List ℕ) (events : List (Event Term)) → MayGiveAll me next live events → handled from to events ≡ []
   quiet-turn me next live [] may = refl
   quiet-turn me next live (e ∷ events) may =
-      ap (λ es. es ++ handled from to events) (quiet-one me next live e may.0) ∙ quiet-turn me (next + length (made_by e)) (live ++ made_by e) events may.1
+      ap (λ es. es ++ handled from to events) (quiet-one me next live e may.0) ∙ quiet-turn me (next_after next e) (live_after live e) events may.1
 
   quiet-ending : (me : ℕ) (links : List ℕ) (outcome : Outcome) → handled from to (ending me links outcome) ≡ []
   quiet-ending me links Runs = refl

@@ -12,12 +12,13 @@ use Rattle.ej_world.specs.declared.event.Event.TheVariants as event
 use Rattle.ej_world.specs.Agree.{may_turn}
 use Rattle.ej_world.specs.Choices.{View, Outcome, Runs, Waits, Ends, Turned, Code, System, Happened, view_of, holds, agreeing, spawned, status_after, process_after, processes_after, ending, turned, of_change, start, turn_of, run_ready, run_process, delivered, input_to, put_in}
 use Rattle.ej_world.specs.Delivery.{deliver}
-use Rattle.ej_world.specs.Lawful.{Within, RisingBelow, MeetsView, IsBegin, MayGive, MayGiveAll, made_by, made, TimerAfter, States, Kept, LawfulTurn, Lawful, AreAsked}
+use Rattle.ej_world.specs.Lawful.{Within, RisingBelow, MeetsView, IsBegin, MayGive, MayGiveAll, made_by, made, next_after, live_after, TimerAfter, States, Kept, LawfulTurn, Lawful, AreAsked}
 use Rattle.ej_world.specs.Runs.{Choice, run_from, run}
 use Rattle.ej_world.specs.Sound.{IsTimer, SoundProcess, SoundAll, SoundQueue, Sound}
 use Rattle.ej_world.specs.Steps.{Step, Idles, Closes, Starts, Turns, Delivers, Clocks, Inputs, Reaches, Here, Then, end_of, IsTurn}
 use Rattle.ej_world.specs.World.{Status, Running, Waiting, Ended, Process, World, Change, limit, next_pid, empty, fresh, is_live, is_ready, is_ready_in, with_message}
 use Rattle.ej_world.specs.World as world
+use Rattle.ej_world.proofs.LawfulLaw.{next_made}
 use Rattle.ej_world.proofs.Numbers.{within-numbers, holds-numbers}
 use Rattle.ej_world.proofs.SoundDelivery.{SoundEach, set-sound, deliver-sound}
 use Rattle.ej_world.proofs.SoundParts.{fresh-sound, message-sound, Between, queue-grows, queue-sends, all-between, ends-between, all-grow, all-more, all-set, all-found, state-found, all-linked}
@@ -34,7 +35,7 @@ made-length (_ ∷ events) = made-length events
 all-begun : (events : List (Event Term)) (me next : ℕ) (live : List ℕ) → MayGiveAll me next live events → AllByRecursion IsBegin (spawned events)
 all-begun [] me next live may = tt
 all-begun (event.Spawn p q how ∷ events) me next live may = (may.0.2, all-begun events me (next + 1) (live ++ q ∷ []) may.1)
-all-begun (e ∷ events) me next live may = all-begun events me (next + length (made_by e)) (live ++ made_by e) may.1
+all-begun (e ∷ events) me next live may = all-begun events me (next_after next e) (live_after live e) may.1
 
 one-between : (me next bound : ℕ) (live : List ℕ) (e : Event Term) → MayGive me next live e → me < bound → next ≤ bound → Between bound e
 one-between me next bound live (event.Send p q message) may lt le = (omega (arith, may.0), omega (arith, may.1))
@@ -47,8 +48,8 @@ given-between : (me next bound : ℕ) (live : List ℕ) (events : List (Event Te
     → AllByRecursion (Between bound) events
 given-between me next bound live [] may lt le = tt
 given-between me next bound live (e ∷ events) may lt le =
-    let whole = length-append (made_by e) (made events) in
-    (one-between me next bound live e may.0 lt (omega arith), given-between me (next + length (made_by e)) bound _ events may.1 lt (omega arith))
+    let whole = next_made next e events in
+    (one-between me next bound live e may.0 lt (omega arith), given-between me (next_after next e) bound (live_after live e) events may.1 lt (omega arith))
 
 length-agreeing : (me : ℕ) (old new : List ℕ) (number : ℕ) (ps : List Process) → length (agreeing me old new number ps) ≡ length ps
 length-agreeing me old new number [] = refl

@@ -63,10 +63,19 @@ made_by _ = []
 abbrev pub made : List (Event Term) → List ℕ
 made events = flat_map made_by events
 
--- events one after the other: each process that is made is live and has a number from then on
+-- a process that an event makes has a number, and is live
+abbrev pub next_after : ℕ → Event Term → ℕ
+next_after next (event.Spawn p q how) = next + 1
+next_after next _ = next
+
+abbrev pub live_after : List ℕ → Event Term → List ℕ
+live_after live (event.Spawn p q how) = live ++ q ∷ []
+live_after live _ = live
+
+-- events one after the other
 abbrev pub MayGiveAll : (me next : ℕ) → (live : List ℕ) → List (Event Term) → Type 0
 MayGiveAll me next live [] = Unit {0}
-MayGiveAll me next live (e ∷ events) = MayGive me next live e × MayGiveAll me (next + length (made_by e)) (live ++ made_by e) events
+MayGiveAll me next live (e ∷ events) = MayGive me next live e × MayGiveAll me (next_after next e) (live_after live e) events
 
 -- ---- mailboxes and timers
 
