@@ -8,12 +8,15 @@ use Rattle.std.proofs.lemmas.Option.{slice_get_past, same_Some}
 use Rattle.ej_term.specs.Term.{Term, Atom}
 use Rattle.ej_world.specs.declared.event.Event.TheVariants as event
 use Rattle.ej_world.specs.Auto.{below, pairs, has_signal, first_pair, links_of_live, signals, behind, deliver_next, deliveries, all_delivered}
-use Rattle.ej_world.specs.Choices.{System, Happened, closed, of_change, delivered}
+use Rattle.ej_world.specs.Choices.{Code, System, Happened, closed, of_change, delivered}
 use Rattle.ej_world.specs.Delivery.{is_atom, exit_message, dropped, appended, hit, exits, is_linked, without_link, breaks, to_live, to_process, with_queue, first_of, deliver}
-use Rattle.ej_world.specs.Lawful.{States}
+use Rattle.ej_world.specs.Lawful.{States, Lawful, AreAsked}
+use Rattle.ej_world.specs.Runs.{Choice}
 use Rattle.ej_world.specs.Sound.{SoundQueue, Sound}
-use Rattle.ej_world.specs.World.{Signal, Message, Link, Exit, Ended, Process, World, Queue, Change, next_pid, is_live, taken, put, with_signals, with_process, with_status, with_message}
+use Rattle.ej_world.specs.Steps.{end_of}
+use Rattle.ej_world.specs.World.{Signal, Message, Link, Exit, Ended, Process, World, Queue, Change, next_pid, empty, is_live, taken, put, with_signals, with_process, with_status, with_message}
 use Rattle.ej_world.proofs.SoundDelivery.{get_set, SoundEach, deliver-sound}
+use Rattle.ej_world.proofs.SoundLaw.{run_sound}
 use Rattle.ej_world.proofs.Sums.{hits, hits-pairs, hits-at-most, waiting, put-waits, taken-waits, linked, linked-set}
 
 -- ---- one delivery
@@ -239,3 +242,8 @@ module _ {S : Type 0} (IsState : States S) where
   pub all_are_delivered : (r : System S) → Sound IsState r → (from to : ℕ) → (all_delivered r).system.world.queue from to ≡ []
   all_are_delivered r sound from to =
       nothing_waits (all_delivered r).system.world (deliveries-sound (signals r.world) r sound).queue (all_delivered_end r) from to
+
+-- so they are wherever a run of a lawful code comes to
+pub run_delivers : {S : Type 0} (code : Code S) (IsState : States S) → Lawful code IsState → (script : List Choice) → AreAsked script
+    → (from to : ℕ) → (all_delivered (end_of code (record { world = empty; states = [] }) script)).system.world.queue from to ≡ []
+run_delivers code IsState lawful script asked from to = all_are_delivered IsState (end_of code (record { world = empty; states = [] }) script) (run_sound code IsState lawful script asked) from to

@@ -252,12 +252,13 @@ module _ {S : Type 0} (code : Code S) (IsState : States S) where
     sound_stays _ _ _ (Here r) sound = sound
     sound_stays _ q _ (Then r h events _ first rest) sound = sound_stays h.system q events rest (step-sound r h first sound)
 
-    -- each turn of what comes of the empty world is of a view that may be asked for a turn, and is lawful
+    -- each turn of what comes of the empty world is of a view and of a state that may be asked for a turn, and is lawful
     pub reached_turn : (r : System S) (events : List (Event Term)) (transfers number : ℕ) (h : Happened S) → Reaches code (record { world = empty; states = [] }) events r → 1 ≤ transfers
-        → (t : IsTurn code r transfers number h) → MeetsView (view_of r.world number t.process) × LawfulTurn IsState (view_of r.world number t.process) (code.turn transfers (view_of r.world number t.process) t.state)
+        → (t : IsTurn code r transfers number h) → MeetsView (view_of r.world number t.process) × IsState t.process.status t.state
+        × LawfulTurn IsState (view_of r.world number t.process) (code.turn transfers (view_of r.world number t.process) t.state)
     reached_turn r events transfers number h reached some t =
         let sound = sound_stays _ r events reached empty_sound in
-        (view_meets r number t.process sound t.at t.ready, lawful_turn r transfers number h sound some t)
+        (view_meets r number t.process sound t.at t.ready, state_meets r number t.process t.state sound t.at t.has t.ready, lawful_turn r transfers number h sound some t)
 
     -- what a run of what may be asked comes to, at each of its choices
     pub run_sound : (script : List Choice) → AreAsked script → Sound IsState (end_of code (record { world = empty; states = [] }) script)
