@@ -1,15 +1,15 @@
 -- The deliveries of `auto` leave no signal behind.
-use Rattle.std.proofs.Common.{◌≡◌, ℕ, zero, suc, ◌+◌, ◌<◌, ◌≤◌, Bool, true, false, not, nat_eq, nat_lt, ◌&&◌, ◌⊎◌, inl, inr, List, [], ◌∷◌, ◌++◌, codes, length, map, Option, None, Some, option_map, option_and_then, refl, sym, ap, ◌∙◌, subst, arith}
+use Rattle.std.proofs.Common.{◌≡◌, ℕ, zero, suc, ◌+◌, ◌<◌, ◌≤◌, Bool, true, false, not, nat_eq, nat_lt, ◌&&◌, ◌⊎◌, inl, inr, List, [], ◌∷◌, ◌++◌, codes, length, map, Option, None, Some, option_map, option_and_then, refl, sym, ap, subst, arith}
 use Rattle.std.specs.Prelude.{slice_get, slice_set, if◌then◌else◌}
 use Rattle.std.specs.List.{AllByRecursion, flat_map, filter, find}
 use Rattle.std.proofs.lemmas.Bool.{cond_both, ltb-true, ltb-false, cases_order}
 use Rattle.std.proofs.lemmas.List.{length-set}
-use Rattle.std.proofs.lemmas.Option.{slice_get_past, same_Some}
+use Rattle.std.proofs.lemmas.Option.{same_Some}
 use Rattle.ej_term.specs.Term.{Term, Atom}
 use Rattle.ej_world.specs.declared.event.Event.TheVariants as event
-use Rattle.ej_world.specs.Auto.{below, pairs, has_signal, first_pair, links_of_live, signals, behind, deliver_next, deliveries, all_delivered}
-use Rattle.ej_world.specs.Choices.{Code, System, Happened, closed, of_change, delivered}
-use Rattle.ej_world.specs.Delivery.{is_atom, exit_message, dropped, appended, hit, exits, is_linked, without_link, breaks, to_live, to_process, with_queue, first_of, deliver}
+use Rattle.ej_world.specs.Auto.{below, pairs, has_signal, first_pair, links_of_live, signals, deliver_next, deliveries, all_delivered}
+use Rattle.ej_world.specs.Choices.{Code, System, Happened, of_change, delivered}
+use Rattle.ej_world.specs.Delivery.{is_atom, exit_message, appended, hit, exits, is_linked, without_link, to_live, to_process, with_queue, first_of, deliver}
 use Rattle.ej_world.specs.Lawful.{States, Lawful, AreAsked}
 use Rattle.ej_world.specs.Runs.{Choice}
 use Rattle.ej_world.specs.Sound.{SoundQueue, Sound}
@@ -17,7 +17,7 @@ use Rattle.ej_world.specs.Steps.{end_of}
 use Rattle.ej_world.specs.World.{Signal, Message, Link, Exit, Ended, Process, World, Queue, Change, next_pid, empty, is_live, taken, put, with_signals, with_process, with_status, with_message}
 use Rattle.ej_world.proofs.SoundDelivery.{get_set, SoundEach, deliver-sound}
 use Rattle.ej_world.proofs.SoundLaw.{run_sound}
-use Rattle.ej_world.proofs.Sums.{hits, hits-pairs, hits-at-most, waiting, put-waits, taken-waits, linked, linked-set}
+use Rattle.ej_world.proofs.Sums.{hits-pairs, hits-at-most, waiting, put-waits, taken-waits, linked-set}
 
 -- ---- one delivery
 

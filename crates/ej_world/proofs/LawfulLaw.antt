@@ -1,12 +1,12 @@
 -- Parts of lawful turns, one after the other.
-use Rattle.std.proofs.Common.{◌≡◌, ℕ, ◌+◌, ◌<◌, ◌≤◌, Bool, true, false, nat_eq, List, [], ◌∷◌, ◌++◌, length, inl, inr, ◌⊎◌, refl, sym, ap, ◌∙◌, subst, arith}
+use Rattle.std.proofs.Common.{◌≡◌, ℕ, ◌+◌, ◌<◌, ◌≤◌, true, false, nat_eq, List, [], ◌∷◌, ◌++◌, length, inl, inr, ◌⊎◌, refl, sym, subst, arith}
 use Rattle.std.proofs.lemmas.Bool.{eqb-true, or_parts, or_from, or_cases}
 use Rattle.std.proofs.lemmas.List.{append_assoc, append-nil}
 use Rattle.ej_term.specs.Term.{Term}
 use Rattle.ej_world.specs.declared.event.Event.{Event}
 use Rattle.ej_world.specs.declared.event.Event.TheVariants as event
 use Rattle.ej_world.specs.Choices.{holds}
-use Rattle.ej_world.specs.Lawful.{Within, MayGiveAll, made, next_after, live_after, Loses, LosesAll}
+use Rattle.ej_world.specs.Lawful.{Within, MayGiveAll, made, next_after, live_after, LosesAll}
 
 -- ---- events
 
@@ -22,9 +22,11 @@ pub may_give_more : (me next : ℕ) (live : List ℕ) (es fs : List (Event Term)
 may_give_more me next live [] fs may more =
     let same : next + 0 ≡ next = omega arith in
     subst (λ n. MayGiveAll me n live fs) same (subst (λ live. MayGiveAll me (next + 0) live fs) (append-nil live) more)
-may_give_more me next live (e ∷ es) fs may more =
-    (may.0, may_give_more me (next_after next e) (live_after live e) es fs may.1
-    (subst (λ n. MayGiveAll me n (live_after live e ++ made es) fs) (sym (next_made next e es)) (subst (λ live. MayGiveAll me (next + length (made (e ∷ es))) live fs) (sym (live_made live e es)) more)))
+may_give_more me next live (e ∷ es) fs may more = (
+  may.0,
+  may_give_more me (next_after next e) (live_after live e) es fs may.1
+      (subst (λ n. MayGiveAll me n (live_after live e ++ made es) fs) (sym (next_made next e es)) (subst (λ live. MayGiveAll me (next + length (made (e ∷ es))) live fs) (sym (live_made live e es)) more)),
+)
 
 -- ---- messages
 

@@ -1,5 +1,5 @@
 -- The signals of one pair are delivered in the order in which they were sent.
-use Rattle.std.proofs.Common.{◌≡◌, ℕ, ◌+◌, ◌≤◌, Bool, true, false, not, nat_eq, nat_lt, ◌&&◌, List, [], ◌∷◌, ◌++◌, codes, length, Option, None, Some, option_map, option_and_then, refl, sym, ap, ◌∙◌, subst}
+use Rattle.std.proofs.Common.{◌≡◌, ℕ, ◌≤◌, Bool, true, false, not, nat_eq, nat_lt, ◌&&◌, List, [], ◌∷◌, ◌++◌, codes, Option, None, Some, option_map, option_and_then, refl, sym, ap, ◌∙◌, subst}
 use Rattle.std.specs.Prelude.{slice_get, if◌then◌else◌}
 use Rattle.std.proofs.lemmas.Bool.{eqb-true}
 use Rattle.std.proofs.lemmas.Grind.{flat_map-append}
@@ -9,9 +9,9 @@ use Rattle.ej_world.specs.declared.effect.Begin.{Begin}
 use Rattle.ej_world.specs.declared.event.Event.{Event}
 use Rattle.ej_world.specs.declared.event.Event.TheVariants as event
 use Rattle.ej_world.specs.Choices.{Outcome, Runs, Waits, Ends as Ends', Turned, Code, System, Happened, view_of, depth_after, ending, turned, nothing, of_change, start, delivered, at_clock, input_to, put_in}
-use Rattle.ej_world.specs.Delivery.{is_atom, exit_message, dropped, appended, hit, exits, is_linked, without_link, breaks, to_live, to_process, with_queue, first_of, deliver}
+use Rattle.ej_world.specs.Delivery.{is_atom, exit_message, dropped, appended, hit, exits, is_linked, without_link, to_live, to_process, with_queue, first_of, deliver}
 use Rattle.ej_world.specs.Lawful.{MayGive, MayGiveAll, next_after, live_after, States, Lawful, AreAsked}
-use Rattle.ej_world.specs.Order.{sent_by, sent, handled_by, handled, ShowsExit, Drops, Ends, Traps, Shows, Appends, Ignores, Breaks, Exits, Kills, ShowEach, InOrder}
+use Rattle.ej_world.specs.Order.{sent_by, sent, handled_by, handled, ShowsExit, Ends, Traps, Shows, Appends, Ignores, Breaks, Exits, Kills, ShowEach, InOrder}
 use Rattle.ej_world.specs.Runs.{Choice, run}
 use Rattle.ej_world.specs.Sound.{Sound}
 use Rattle.ej_world.specs.Steps.{Step, Idles, Closes, Starts, Turns, Delivers as Delivers', Clocks, Inputs, Reaches, Here, Then, end_of, IsTurn}

@@ -1,5 +1,5 @@
 -- The delivery of a signal keeps a system sound.
-use Rattle.std.proofs.Common.{◌≡◌, ℕ, zero, suc, ◌+◌, ◌<◌, ◌≤◌, Bool, true, false, not, nat_eq, ◌&&◌, ◌⊎◌, inl, inr, List, [], ◌∷◌, codes, length, Option, None, Some, refl, sym, subst, arith}
+use Rattle.std.proofs.Common.{◌≡◌, ℕ, zero, suc, ◌<◌, ◌≤◌, Bool, true, false, not, nat_eq, ◌&&◌, ◌⊎◌, inl, inr, List, [], ◌∷◌, codes, Option, None, Some, refl, sym, subst, arith}
 use Rattle.std.specs.Prelude.{slice_get, slice_set}
 use Rattle.std.specs.List.{AllByRecursion}
 use Rattle.std.proofs.lemmas.Bool.{cond_both}
@@ -7,8 +7,7 @@ use Rattle.std.proofs.lemmas.List.{length-set}
 use Rattle.std.proofs.lemmas.Option.{slice_get_within}
 use Rattle.ej_term.specs.Term.{Term, Atom}
 use Rattle.ej_world.specs.declared.event.Event.{Event}
-use Rattle.ej_world.specs.Choices.{System}
-use Rattle.ej_world.specs.Delivery.{is_atom, exit_message, dropped, appended, hit, exits, is_linked, without_link, breaks, to_live, to_process, with_queue, first_of, deliver}
+use Rattle.ej_world.specs.Delivery.{is_atom, exit_message, appended, hit, exits, is_linked, without_link, to_live, to_process, with_queue, first_of, deliver}
 use Rattle.ej_world.specs.Lawful.{States}
 use Rattle.ej_world.specs.Sound.{SoundProcess, SoundAll, SoundQueue, Sound}
 use Rattle.ej_world.specs.World.{Signal, Message, Link, Exit, Ended, Process, World, Change, next_pid, limit, is_live, taken, with_process, with_status, with_message, end_events, sending}

@@ -1,6 +1,6 @@
 -- Each system that a run of a lawful code comes to is sound, and each turn of it is of a view that may be asked for a turn.
-use Rattle.std.proofs.Common.{◌≡◌, ℕ, zero, suc, ◌+◌, ◌<◌, ◌≤◌, Bool, true, false, nat_lt, ◌⊎◌, inl, inr, List, [], ◌∷◌, ◌++◌, length, map, Option, None, Some, option_map, option_and_then, refl, sym, ap, ◌∙◌, subst, arith}
-use Rattle.std.specs.Prelude.{slice_get, slice_set, if◌then◌else◌}
+use Rattle.std.proofs.Common.{◌≡◌, ℕ, suc, ◌+◌, ◌<◌, ◌≤◌, true, nat_lt, inl, inr, List, [], ◌∷◌, ◌++◌, length, map, Option, None, Some, option_map, option_and_then, refl, sym, ap, subst, arith}
+use Rattle.std.specs.Prelude.{slice_get, slice_set}
 use Rattle.std.specs.List.{AllByRecursion}
 use Rattle.std.proofs.lemmas.Bool.{cond_both, ltb-true}
 use Rattle.std.proofs.lemmas.List.{length-append, length-map, length-set}
@@ -10,11 +10,11 @@ use Rattle.ej_world.specs.declared.effect.Begin.{Begin}
 use Rattle.ej_world.specs.declared.event.Event.{Event}
 use Rattle.ej_world.specs.declared.event.Event.TheVariants as event
 use Rattle.ej_world.specs.Agree.{may_turn}
-use Rattle.ej_world.specs.Choices.{View, Outcome, Runs, Waits, Ends, Turned, Code, System, Happened, view_of, holds, agreeing, spawned, status_after, process_after, processes_after, ending, turned, of_change, start, turn_of, run_ready, run_process, delivered, input_to, put_in}
+use Rattle.ej_world.specs.Choices.{Outcome, Runs, Waits, Ends, Turned, Code, System, Happened, view_of, agreeing, spawned, process_after, processes_after, ending, turned, of_change, start, turn_of, run_ready, run_process, delivered, input_to, put_in}
 use Rattle.ej_world.specs.Delivery.{deliver}
-use Rattle.ej_world.specs.Lawful.{Within, RisingBelow, MeetsView, IsBegin, MayGive, MayGiveAll, made_by, made, next_after, live_after, TimerAfter, States, Kept, LawfulTurn, Lawful, AreAsked}
-use Rattle.ej_world.specs.Runs.{Choice, run_from, run}
-use Rattle.ej_world.specs.Sound.{IsTimer, SoundProcess, SoundAll, SoundQueue, Sound}
+use Rattle.ej_world.specs.Lawful.{RisingBelow, MeetsView, IsBegin, MayGive, MayGiveAll, made, next_after, live_after, TimerAfter, States, Kept, LawfulTurn, Lawful, AreAsked}
+use Rattle.ej_world.specs.Runs.{Choice}
+use Rattle.ej_world.specs.Sound.{IsTimer, SoundProcess, SoundAll, Sound}
 use Rattle.ej_world.specs.Steps.{Step, Idles, Closes, Starts, Turns, Delivers, Clocks, Inputs, Reaches, Here, Then, end_of, IsTurn}
 use Rattle.ej_world.specs.World.{Status, Running, Waiting, Ended, Process, World, Change, limit, next_pid, empty, fresh, is_live, is_ready, is_ready_in, with_message}
 use Rattle.ej_world.specs.World as world

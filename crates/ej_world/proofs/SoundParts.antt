@@ -182,5 +182,5 @@ module _ {S : Type 0} (IsState : States S) where
   all-linked bound number me old new (p ∷ ps) (s ∷ ss) lt lacks sound = (
     linked-sound bound me number (holds old number) (holds new number) p lt (λ has. other-number new me number lacks has) sound.0,
     subst (λ status. Kept IsState status s) (sym (linked-status me (holds old number) (holds new number) p)) sound.1,
-    all-linked bound (number + 1) me old new ps ss lt lacks sound.2
+    all-linked bound (number + 1) me old new ps ss lt lacks sound.2,
   )

@@ -1,15 +1,14 @@
 -- A run is what happens at once, one after the other.
-use Rattle.std.proofs.Common.{◌≡◌, ℕ, zero, suc, ◌+◌, ◌≤◌, min, Bool, true, false, nat_lt, nat_le, List, [], ◌∷◌, ◌++◌, Option, None, Some, option_map, option_and_then, refl, sym, subst, arith}
+use Rattle.std.proofs.Common.{◌≡◌, ℕ, zero, suc, ◌+◌, min, Bool, true, false, nat_le, List, [], ◌∷◌, ◌++◌, Option, None, Some, option_map, option_and_then, refl, sym, subst, arith}
 use Rattle.std.specs.Prelude.{if◌then◌else◌}
 use Rattle.std.proofs.lemmas.Bool.{leb-true}
 use Rattle.std.proofs.lemmas.List.{append_assoc, append-nil}
 use Rattle.ej_term.specs.Term.{Term, Atom, list}
 use Rattle.ej_world.specs.declared.effect.Begin.TheVariants as begin
 use Rattle.ej_world.specs.declared.event.Event.{Event}
-use Rattle.ej_world.specs.declared.event.Event.TheVariants as event
-use Rattle.ej_world.specs.Auto.{behind, deliver_next, deliveries, signals, first_pair, all_delivered, next_ready, deadlines, least, to_come, Step as AutoStep, stepped, or_advance, step_to, step, step_behind, rounds, or_idle, auto}
-use Rattle.ej_world.specs.Choices.{Code, System, Happened, closed, nothing, or_nothing, start, run_process, delivered, at_clock, advanced, put_in}
-use Rattle.ej_world.specs.Lawful.{IsBegin, IsAsked, AreAsked}
+use Rattle.ej_world.specs.Auto.{behind, deliver_next, deliveries, signals, first_pair, all_delivered, next_ready, deadlines, least, to_come, Step as AutoStep, stepped, or_advance, step_to, step, step_behind, rounds, or_idle}
+use Rattle.ej_world.specs.Choices.{Code, System, Happened, closed, nothing, or_nothing, start, run_process, delivered, advanced, put_in}
+use Rattle.ej_world.specs.Lawful.{IsAsked, AreAsked}
 use Rattle.ej_world.specs.Runs.{Choice, Start, Run, Deliver, Advance, Input, Auto, choose, run_from}
 use Rattle.ej_world.specs.Steps.{Step, Idles, Closes, Starts, Turns, Delivers, Clocks, Inputs, Reaches, Here, Then, end_of}
 use Rattle.ej_world.specs.World as world

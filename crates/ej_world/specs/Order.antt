@@ -1,5 +1,5 @@
 -- The signals of one pair are delivered in the order in which they were sent.
-use Rattle.std.specs.Prelude.{◌≡◌, ℕ, Bool, true, nat_eq, ◌&&◌, ◌⊎◌, if◌then◌else◌, List, [], ◌∷◌, ◌++◌, codes}
+use Rattle.std.specs.Prelude.{◌≡◌, ℕ, true, nat_eq, ◌&&◌, if◌then◌else◌, List, [], ◌∷◌, ◌++◌, codes}
 use Rattle.std.specs.List.{flat_map}
 use Rattle.ej_term.specs.Term.{Term, Atom}
 use Rattle.ej_world.specs.declared.event.Event.{Event}
