@@ -424,6 +424,19 @@ auto_advances : run (doing ((sleeps_until 20 ∷ []) ∷ (sleeps_until 10 ∷ []
     ∷ e.Clock 10 ∷ e.Ready (1 ∷ []) ∷ e.Turn 1 0 ∷ e.Ready (1 ∷ []) ∷ e.Turn 1 0 ∷ e.Ready (1 ∷ []) ∷ [])
 auto_advances = refl
 
+-- an advance leaves the turn to the process above the one that ran last
+auto_goes_on : run (doing ((sleeps_until 10 ∷ []) ∷ (sleeps_until 10 ∷ []) ∷ [])) (two_begin ++ (Run 1 1 ∷ Auto 3 ∷ []))
+    ≡ two_began ++ (e.Turn 1 0 ∷ e.Ready (0 ∷ []) ∷ e.Turn 0 0 ∷ e.Ready [] ∷ e.Clock 10 ∷ e.Ready (0 ∷ 1 ∷ []) ∷ e.Turn 1 0 ∷ e.Ready (0 ∷ 1 ∷ []) ∷ [])
+auto_goes_on = refl
+
+-- a code that prints how many transfers a turn may make
+abbrev counting : Code (Unit {0})
+counting = record { begin = λ how. tt; turn = λ transfers v state. record { events = e.Print v.me (number transfers) ∷ []; outcome = Runs; view = v; state = state }; depth = λ state. 0 }
+
+auto_transfers : run counting (one_begins ++ (Run 0 5 ∷ Auto 1 ∷ []))
+    ≡ one_began ++ (e.Print 0 (number 5) ∷ e.Turn 0 0 ∷ e.Ready (0 ∷ []) ∷ e.Print 0 (number 2000) ∷ e.Turn 0 0 ∷ e.Ready (0 ∷ []) ∷ [])
+auto_transfers = refl
+
 -- a delivery that is dropped is something to do
 auto_drops : run (doing ((says (e.Send 0 1 boom ∷ []) (Ends normal) ∷ []) ∷ (says [] (Ends normal) ∷ []) ∷ [])) (two_begin ++ (Run 1 1 ∷ Run 0 1 ∷ Auto 7 ∷ Auto 7 ∷ []))
     ≡ two_began ++ (e.Exit 1 normal ∷ e.Turn 1 0 ∷ e.Ready (0 ∷ []) ∷ e.Send 0 1 boom ∷ e.Exit 0 normal ∷ e.Turn 0 0 ∷ e.Ready []
