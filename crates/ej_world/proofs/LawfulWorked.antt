@@ -1,14 +1,16 @@
 -- A code that is lawful: in each turn a process takes all messages, sends one to itself, makes a process that is linked to
 -- it where there is a number for it, makes a reference where there is one, and waits until a timer is due.
-use Rattle.std.proofs.Common.{◌≡◌, ℕ, ◌+◌, ◌<◌, ◌≤◌, Bool, true, false, nat_lt, List, [], ◌∷◌, ◌++◌, length, map, Some, inr, refl, sym, ap, ◌∙◌, subst, arith}
+use Rattle.std.proofs.Common.{◌≡◌, ℕ, ◌+◌, ◌<◌, ◌≤◌, Bool, true, false, nat_lt, List, [], ◌∷◌, ◌++◌, length, map, None, Some, inl, inr, refl, sym, ap, ◌∙◌, subst, arith}
 use Rattle.std.proofs.lemmas.Bool.{ltb-true, ne_eqb}
 use Rattle.std.proofs.lemmas.List.{append-nil}
-use Rattle.ej_term.specs.Term.{Term, Nil}
+use Rattle.std.proofs.lemmas.Option.{same_Some}
+use Rattle.std.specs.Prelude.{pos, codes}
+use Rattle.ej_term.specs.Term.{Term, Int, Atom, Nil, list}
 use Rattle.ej_world.specs.declared.effect.Begin.TheVariants as begin
 use Rattle.ej_world.specs.declared.event.Event.{Event}
 use Rattle.ej_world.specs.declared.event.Event.TheVariants as event
 use Rattle.ej_world.specs.Choices.{View, Waits, Turned, Code, holds}
-use Rattle.ej_world.specs.Lawful.{RisingBelow, MeetsView, MayGiveAll, made, received, LosesAll, States, LawfulTurn, Lawful}
+use Rattle.ej_world.specs.Lawful.{RisingBelow, MeetsView, MayGive, MayGiveAll, made, received, LosesAll, TimerAfter, States, LawfulTurn, Lawful}
 use Rattle.ej_world.specs.World.{limit}
 use Rattle.ej_world.proofs.LawfulLaw.{loses_each, held_below, within_last, lacks_last}
 
@@ -117,3 +119,55 @@ busy_is_lawful = record {
   begins = λ how is. tt;
   turns = λ transfers v status s some meets may is. spawn-is-lawful (nat_lt v.next_pid limit) (nat_lt v.next_ref limit) v meets refl refl;
 }
+
+-- ---- events of process 1, where 2 is the next number
+
+-- a process that is made has a number from then on
+makes : MayGiveAll 1 2 (1 ∷ []) (event.Spawn 1 2 (begin.Call (Atom (codes "m")) (Atom (codes "f")) (list (Nil ∷ []))) ∷ event.Send 1 2 Nil ∷ event.Spawn 1 3 (begin.Fun Nil) ∷ event.Signal 1 3 Nil ∷ [])
+makes = ((refl, refl, (Nil ∷ [], refl, omega arith)), ((refl, omega arith), ((refl, refl, tt), ((refl, omega arith), tt))))
+
+makes-not-another : MayGive 1 2 (1 ∷ []) (event.Spawn 1 3 (begin.Fun Nil)) → ⊥
+makes-not-another may = omega (arith, may.1)
+
+calls-no-number : MayGive 1 2 (1 ∷ []) (event.Spawn 1 2 (begin.Call (Atom (codes "m")) (Int (pos 1)) Nil)) → ⊥
+calls-no-number may = may.2
+
+calls-with-a-list : MayGive 1 2 (1 ∷ []) (event.Spawn 1 2 (begin.Call (Atom (codes "m")) (Atom (codes "f")) (Atom (codes "a")))) → ⊥
+calls-with-a-list may = no-list may.2.0 may.2.1
+  where
+    no-list : (parts : List Term) → Atom (codes "a") ≡ list parts → ⊥
+    no-list [] e = absurd cc
+    no-list (t ∷ parts) e = absurd cc
+
+sends-to-none : MayGive 1 2 (1 ∷ []) (event.Send 1 2 Nil) → ⊥
+sends-to-none may = omega (arith, may.1)
+
+sends-for-another : MayGive 1 2 (0 ∷ 1 ∷ []) (event.Send 0 1 Nil) → ⊥
+sends-for-another may = omega (arith, may.0)
+
+-- a link to a process that ended, and to one that is live
+links-to-ended : MayGive 1 2 (1 ∷ []) (event.Broken 0 1 (Atom (codes "noproc")))
+links-to-ended = (refl, omega arith, refl, refl)
+
+links-to-live : MayGive 1 2 (0 ∷ 1 ∷ []) (event.Broken 0 1 (Atom (codes "noproc"))) → ⊥
+links-to-live may = let e = may.2 in absurd cc
+
+tells-noproc : MayGive 1 2 (1 ∷ []) (event.Broken 0 1 (Atom (codes "boom"))) → ⊥
+tells-noproc may = let e = may.3 in absurd cc
+
+-- ---- mailboxes
+
+-- of equal messages either may go
+loses-first : LosesAll (Nil ∷ []) (Nil ∷ Atom (codes "a") ∷ Nil ∷ []) (Atom (codes "a") ∷ Nil ∷ [])
+loses-first = (_, record { front = []; back = Atom (codes "a") ∷ Nil ∷ []; was = refl; is = refl }, refl)
+
+loses-last : LosesAll (Nil ∷ []) (Nil ∷ Atom (codes "a") ∷ Nil ∷ []) (Nil ∷ Atom (codes "a") ∷ [])
+loses-last = (_, record { front = Nil ∷ Atom (codes "a") ∷ []; back = []; was = refl; is = refl }, refl)
+
+-- a timer is at most 4294967295 past the clock, or was there before
+sets : TimerAfter 7 None (Some 4294967302)
+sets = inr (omega arith)
+
+sets-too-late : TimerAfter 7 (Some 4294967304) (Some 4294967303) → ⊥
+sets-too-late (inl e) = omega (arith, same_Some {A = ℕ} 4294967304 4294967303 e)
+sets-too-late (inr le) = omega arith
