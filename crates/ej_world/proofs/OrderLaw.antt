@@ -1,22 +1,24 @@
 -- The signals of one pair are delivered in the order in which they were sent.
-use Rattle.std.proofs.Common.{◌≡◌, ℕ, zero, suc, Bool, true, false, not, nat_eq, nat_lt, ◌&&◌, List, [], ◌∷◌, ◌++◌, codes, length, map, Option, None, Some, option_map, option_and_then, refl, sym, ap, ◌∙◌, subst}
-use Rattle.std.specs.Prelude.{slice_get, slice_set, if◌then◌else◌}
-use Rattle.std.specs.List.{AllByRecursion, flat_map}
+use Rattle.std.proofs.Common.{◌≡◌, ℕ, ◌≤◌, Bool, true, false, not, nat_eq, nat_lt, ◌&&◌, List, [], ◌∷◌, ◌++◌, codes, Option, None, Some, option_map, option_and_then, refl, sym, ap, ◌∙◌, subst}
+use Rattle.std.specs.Prelude.{slice_get, if◌then◌else◌}
 use Rattle.std.proofs.lemmas.Bool.{eqb-true}
 use Rattle.std.proofs.lemmas.Grind.{flat_map-append}
 use Rattle.std.proofs.lemmas.List.{append_assoc, append-nil}
-use Rattle.ej_term.specs.Term.{Term, Atom, list}
+use Rattle.ej_term.specs.Term.{Term, Atom}
 use Rattle.ej_world.specs.declared.effect.Begin.{Begin}
-use Rattle.ej_world.specs.declared.effect.Begin.TheVariants as begin
 use Rattle.ej_world.specs.declared.event.Event.{Event}
 use Rattle.ej_world.specs.declared.event.Event.TheVariants as event
-use Rattle.ej_world.specs.Auto.{behind, deliver_next, deliveries, signals, first_pair, all_delivered, next_ready, deadlines, least, to_come, Step, stepped, or_advance, step_to, step, step_behind, rounds, or_idle, auto}
-use Rattle.ej_world.specs.Choices.{View, Outcome, Runs, Waits, Ends as Ends', Turned, Code, System, Happened, view_of, spawned, depth_after, ending, turned, closed, nothing, or_nothing, of_change, start, turn_of, run_ready, run_process, delivered, at_clock, advanced, input_to, put_in}
-use Rattle.ej_world.specs.Runs.{Choice, Start, Run, Deliver, Advance, Input, Auto, choose, run_from, run}
+use Rattle.ej_world.specs.Choices.{Outcome, Runs, Waits, Ends as Ends', Turned, Code, System, Happened, view_of, depth_after, ending, turned, nothing, of_change, start, delivered, at_clock, input_to, put_in}
+use Rattle.ej_world.specs.Delivery.{is_atom, exit_message, dropped, appended, hit, exits, is_linked, without_link, to_live, to_process, with_queue, first_of, deliver}
+use Rattle.ej_world.specs.Lawful.{MayGive, MayGiveAll, next_after, live_after, States, Lawful, AreAsked}
+use Rattle.ej_world.specs.Order.{sent_by, sent, handled_by, handled, ShowsExit, Ends, Traps, Shows, Appends, Ignores, Breaks, Exits, Kills, ShowEach, InOrder}
+use Rattle.ej_world.specs.Runs.{Choice, run}
+use Rattle.ej_world.specs.Sound.{Sound}
+use Rattle.ej_world.specs.Steps.{Step, Idles, Closes, Starts, Turns, Delivers as Delivers', Clocks, Inputs, Reaches, Here, Then, end_of, IsTurn}
+use Rattle.ej_world.specs.World.{Signal, Message, Link, Exit, Process, World, Queue, Change, is_live, put, taken, with_signal, with_signals, with_process, with_message, end_events}
 use Rattle.ej_world.specs.World as world
-use Rattle.ej_world.specs.Delivery.{is_atom, exit_message, dropped, appended, hit, exits, is_linked, without_link, breaks, to_live, to_process, with_queue, first_of, deliver}
-use Rattle.ej_world.specs.Order.{sent_by, sent, handled_by, handled, ShowsExit, Drops, Ends, Traps, Shows, Appends, Ignores, Breaks, Exits, Kills, ShowEach, InOrder, IsOfTurn, GivesOfTurns}
-use Rattle.ej_world.specs.World.{Signal, Message, Link, Exit, Process, World, Queue, Change, is_live, is_ready, put, taken, with_signal, with_signals, with_process, with_links, with_message, end_events, ends}
+use Rattle.ej_world.proofs.SoundLaw.{is_turn, lawful_turn, empty_sound, step-sound}
+use Rattle.ej_world.proofs.StepsLaw.{run_steps}
 
 module _ (from to : ℕ) where
   is_pair : ℕ → ℕ → Bool
@@ -236,31 +238,23 @@ module _ (from to : ℕ) where
 
   -- ---- what a turn gives
 
-  quiet-turn-event : (e : Event Term) → IsOfTurn e → handled_by from to e ≡ []
-  quiet-turn-event (event.Spawn p q how) is = refl
-  quiet-turn-event (event.Send p q message) is = refl
-  quiet-turn-event (event.Signal p q reason) is = refl
-  quiet-turn-event (event.Broken p q reason) is = refl
-  quiet-turn-event (event.Lost p message) is = refl
-  quiet-turn-event (event.Recv p message) is = refl
-  quiet-turn-event (event.Print p term) is = refl
-  quiet-turn-event (event.Raise p class reason) is = refl
-  quiet-turn-event (event.Answer p value) is = refl
-  quiet-turn-event (event.Fault p) is = refl
-  quiet-turn-event (event.Start p how) is = absurd is
-  quiet-turn-event (event.Deliver p q message) is = absurd is
-  quiet-turn-event (event.Hit p q reason) is = absurd is
-  quiet-turn-event (event.Dropped p q) is = absurd is
-  quiet-turn-event (event.Input p message) is = absurd is
-  quiet-turn-event (event.Exit p reason) is = absurd is
-  quiet-turn-event (event.Clock clock) is = absurd is
-  quiet-turn-event (event.Turn p depth) is = absurd is
-  quiet-turn-event event.Idle is = absurd is
-  quiet-turn-event (event.Ready numbers) is = absurd is
+  quiet-one : (me next : ℕ) (live : List ℕ) (e : Event Term) → MayGive me next live e → handled_by from to e ≡ []
+  quiet-one me next live (event.Spawn p q how) may = refl
+  quiet-one me next live (event.Send p q message) may = refl
+  quiet-one me next live (event.Signal p q reason) may = refl
+  quiet-one me next live (event.Broken p q reason) may = refl
+  quiet-one me next live (event.Lost p message) may = refl
+  quiet-one me next live (event.Recv p message) may = refl
+  quiet-one me next live (event.Print p term) may = refl
+  quiet-one me next live (event.Raise p class reason) may = refl
+  quiet-one me next live (event.Answer p value) may = refl
+  quiet-one me next live (event.Fault p) may = refl
+  quiet-one me next live _ may = absurd may
 
-  quiet-turn : (events : List (Event Term)) → AllByRecursion IsOfTurn events → handled from to events ≡ []
-  quiet-turn [] are = refl
-  quiet-turn (e ∷ events) are = ap (λ es. es ++ handled from to events) (quiet-turn-event e are.0) ∙ quiet-turn events are.1
+  quiet-turn : (me next : ℕ) (live : List ℕ) (events : List (Event Term)) → MayGiveAll me next live events → handled from to events ≡ []
+  quiet-turn me next live [] may = refl
+  quiet-turn me next live (e ∷ events) may =
+      ap (λ es. es ++ handled from to events) (quiet-one me next live e may.0) ∙ quiet-turn me (next_after next e) (live_after live e) events may.1
 
   quiet-ending : (me : ℕ) (links : List ℕ) (outcome : Outcome) → handled from to (ending me links outcome) ≡ []
   quiet-ending me links Runs = refl
@@ -284,15 +278,8 @@ module _ (from to : ℕ) where
     MovedEach r None = Unit {0}
     MovedEach r (Some h) = Moved r h
 
-    moved-closed : (r : System S) (h : Happened S) → Moved r h → Moved r (closed h)
-    moved-closed r h moved = moves-on h.events (event.Ready (world.ready h.system.world) ∷ []) (waiting r) (waiting h.system) (waiting h.system) moved (moves-one _ (waiting h.system) refl refl)
-
     moved-nothing : (r : System S) → Moved r (nothing r)
     moved-nothing r = moves-one event.Idle (waiting r) refl refl
-
-    moved-or : (r : System S) (o : Option (Happened S)) → MovedEach r o → Moved r (or_nothing r o)
-    moved-or r None moved = moved-nothing r
-    moved-or r (Some h) moved = moved
 
     moved-change : (r : System S) (o : Option Change) → MovesEach (waiting r) o → MovedEach r (option_map (of_change r.states) o)
     moved-change r None moved = tt
@@ -313,11 +300,11 @@ module _ (from to : ℕ) where
     moved-input number message r None = tt
     moved-input number message r (Some p) = moved-input-to r number message p (is_live p)
 
-    module _ (code : Code S) (gives : GivesOfTurns code) where
-      moved-turned : (r : System S) (me : ℕ) (p : Process) (t : Turned S) → AllByRecursion IsOfTurn t.events → Moved r (turned code r me p t)
-      moved-turned r me p t are =
+    module _ (code : Code S) where
+      moved-turned : (r : System S) (me next : ℕ) (live : List ℕ) (p : Process) (t : Turned S) → MayGiveAll me next live t.events → Moved r (turned code r me p t)
+      moved-turned r me next live p t may =
           moves-on t.events (ending me t.view.links t.outcome ++ event.Turn me depth ∷ []) (waiting r) (waiting r ++ sent from to t.events) (with_signals (t.events ++ ending me t.view.links t.outcome) r.world.queue from to)
-          (moves-quiet t.events (waiting r) _ (quiet-turn t.events are) refl)
+          (moves-quiet t.events (waiting r) _ (quiet-turn me next live t.events may) refl)
           (moves-on (ending me t.view.links t.outcome) (event.Turn me depth ∷ []) (waiting r ++ sent from to t.events) _ _
           (moves-quiet (ending me t.view.links t.outcome) _ _ (quiet-ending me t.view.links t.outcome) after)
           (moves-one _ _ refl refl))
@@ -330,21 +317,6 @@ module _ (from to : ℕ) where
               all-sent (t.events ++ ending me t.view.links t.outcome) r.world.queue
               ∙ ap (λ signals. waiting r ++ signals) (flat_map-append (sent_by from to) t.events (ending me t.view.links t.outcome))
               ∙ sym (append_assoc (waiting r) (sent from to t.events) (sent from to (ending me t.view.links t.outcome)))
-
-      moved-turn-of : (r : System S) (transfers me : ℕ) (p : Process) (o : Option S) → MovedEach r (turn_of code r transfers me p o)
-      moved-turn-of r transfers me p None = tt
-      moved-turn-of r transfers me p (Some state) = moved-turned r me p (code.turn transfers (view_of r.world me p) state) (gives transfers (view_of r.world me p) state)
-
-      moved-if-ready : (r : System S) (transfers me : ℕ) (p : Process) (b : Bool) → MovedEach r (if b then turn_of code r transfers me p (slice_get r.states me) else None)
-      moved-if-ready r transfers me p true = moved-turn-of r transfers me p (slice_get r.states me)
-      moved-if-ready r transfers me p false = tt
-
-      moved-run-ready : (r : System S) (transfers me : ℕ) (o : Option Process) → MovedEach r (run_ready code r transfers me o)
-      moved-run-ready r transfers me None = tt
-      moved-run-ready r transfers me (Some p) = moved-if-ready r transfers me p (is_ready r.world.clock p)
-
-      moved-run : (r : System S) (transfers me : ℕ) → MovedEach r (run_process code r transfers me)
-      moved-run r transfers me = moved-run-ready r transfers me (slice_get r.world.processes me)
 
       moved-start : (r : System S) (how : Begin Term) → MovedEach r (start code r how)
       moved-start r how = by (nat_lt (world.next_pid r.world) world.limit)
@@ -362,86 +334,32 @@ module _ (from to : ℕ) where
           by true = moves-one (event.Start (world.next_pid r.world) how) (waiting r) refl refl
           by false = tt
 
-      -- ---- `auto`
+      if-there : (r : System S) (o : Option (Happened S)) (h : Happened S) → MovedEach r o → o ≡ Some h → Moved r h
+      if-there r o h moved e = subst (MovedEach r) e moved
 
-      moved-behind : (r : System S) (h k : Happened S) → Moved r h → Moved h.system k → Moved r (behind h.events k)
-      moved-behind r h k one other = moves-on h.events k.events (waiting r) (waiting h.system) (waiting k.system) one other
+      module _ (IsState : States S) (lawful : Lawful code IsState) where
+        moved-turn : (r : System S) (transfers number : ℕ) (h : Happened S) → Sound IsState r → 1 ≤ transfers → IsTurn code r transfers number h → Moved r h
+        moved-turn r transfers number h sound some t =
+            subst (λ h. Moved r h) (sym t.is)
+            (moved-turned r number _ _ t.process (code.turn transfers (view_of r.world number t.process) t.state) (lawful_turn code IsState lawful r transfers number h sound some t).events)
 
-      moved-first : (r : System S) (o : Option (ℕ × ℕ)) → MovedEach r (option_and_then (λ (p : ℕ × ℕ). delivered r p.0 p.1) o)
-      moved-first r None = tt
-      moved-first r (Some p) = moved-delivered p.0 p.1 r
+        moved-step : (r : System S) (h : Happened S) → Sound IsState r → Step code r h → Moved r h
+        moved-step r _ sound Idles = moved-nothing r
+        moved-step r _ sound Closes = moves-one _ (waiting r) refl refl
+        moved-step r _ sound (Starts how h is e) = if-there r (start code r how) h (moved-start r how) e
+        moved-step r _ sound (Turns transfers number h some e) = moved-turn r transfers number h sound some (is_turn code IsState r transfers number h e)
+        moved-step r _ sound (Delivers' p q h e) = if-there r (delivered r p q) h (moved-delivered p q r) e
+        moved-step r _ sound (Clocks clock le) = moved-clock clock r
+        moved-step r _ sound (Inputs number message h e) = if-there r (put_in r number message) h (moved-input number message r (slice_get r.world.processes number)) e
 
-      moved-next : (rest : System S → Happened S) → ((r : System S) → Moved r (rest r)) → (r : System S) (o : Option (Happened S)) → MovedEach r o → Moved r (deliver_next rest r o)
-      moved-next rest each r None moved = moves-none (waiting r)
-      moved-next rest each r (Some h) moved = moved-behind r (closed h) (rest h.system) (moved-closed r h moved) (each h.system)
+        moved-steps : (r q : System S) (events : List (Event Term)) → Reaches code r events q → Sound IsState r → Moves events (waiting r) (waiting q)
+        moved-steps _ _ _ (Here r) sound = moves-none (waiting r)
+        moved-steps _ q _ (Then r h events _ first rest) sound =
+            moves-on h.events events (waiting r) (waiting h.system) (waiting q) (moved-step r h sound first) (moved-steps h.system q events rest (step-sound code IsState lawful r h first sound))
 
-      moved-deliveries : (most : ℕ) (r : System S) → Moved r (deliveries most r)
-      moved-deliveries zero r = moves-none (waiting r)
-      moved-deliveries (suc n) r = moved-next (deliveries n) (moved-deliveries n) r _ (moved-first r (first_pair r.world))
-
-      MovedStep : System S → Option (Step S) → Type 0
-      MovedStep r None = Unit {0}
-      MovedStep r (Some s) = Moved r s.happened
-
-      moved-stepped : (r : System S) (ran : Option ℕ) (o : Option (Happened S)) → MovedEach r o → MovedStep r (option_map (stepped ran) o)
-      unfolding MovedStep
-      moved-stepped r ran None moved = tt
-      moved-stepped r ran (Some h) moved = moved
-
-      moved-advance : (r : System S) (last : Option ℕ) (o : Option ℕ) → MovedStep r (or_advance last r o)
-      unfolding MovedStep
-      moved-advance r last None = tt
-      moved-advance r last (Some deadline) = moved-clock deadline r
-
-      moved-step-to : (r : System S) (last : Option ℕ) (o : Option ℕ) → MovedStep r (step_to code last r o)
-      moved-step-to r last None = moved-advance r last (to_come (least (deadlines r.world)))
-      moved-step-to r last (Some number) = moved-stepped r (Some number) _ (moved-run r 2000 number)
-
-      moved-round : (rest : Option ℕ → System S → Happened S) → ((last : Option ℕ) (r : System S) → Moved r (rest last r)) → (r : System S) (o : Option (Step S)) → MovedStep r o → Moved r (step_behind rest r o)
-      unfolding MovedStep
-      moved-round rest each r None moved = moves-none (waiting r)
-      moved-round rest each r (Some s) moved = moved-behind r (closed s.happened) (rest s.ran s.happened.system) (moved-closed r s.happened moved) (each s.ran s.happened.system)
-
-      moved-rounds : (most : ℕ) (last : Option ℕ) (r : System S) → Moved r (rounds code most last r)
-      moved-rounds zero last r = moves-none (waiting r)
-      moved-rounds (suc n) last r =
-          moved-behind r (all_delivered r) (step_behind (rounds code n) (all_delivered r).system (step code last (all_delivered r).system)) (moved-deliveries (signals r.world) r)
-          (moved-round (rounds code n) (moved-rounds n) (all_delivered r).system (step code last (all_delivered r).system) (moved-step-to (all_delivered r).system last (next_ready last (world.ready (all_delivered r).system.world))))
-
-      moved-idle : (r : System S) (h : Happened S) (events : List (Event Term)) → Moved r h → Moved r (or_idle r h events)
-      moved-idle r h [] moved = moved-closed r (nothing r) (moved-nothing r)
-      moved-idle r h (e ∷ events) moved = moved
-
-      moved-auto : (most : ℕ) (r : System S) → Moved r (auto code most r)
-      moved-auto most r = moved-idle r (rounds code most None r) (rounds code most None r).events (moved-rounds most None r)
-
-      -- ---- scripts
-
-      moved-one : (r : System S) (o : Option (Happened S)) → MovedEach r o → Moved r (closed (or_nothing r o))
-      moved-one r o moved = moved-closed r (or_nothing r o) (moved-or r o moved)
-
-      moved-choice : (c : Choice) (r : System S) → Moved r (choose code r c)
-      moved-choice (Start module' name args) r = moved-one r (start code r (begin.Call (Atom module') (Atom name) (list args))) (moved-start r _)
-      moved-choice (Run number transfers) r = moved-one r (run_process code r transfers number) (moved-run r transfers number)
-      moved-choice (Deliver p q) r = moved-one r (delivered r p q) (moved-delivered p q r)
-      moved-choice (Advance ms) r = moved-closed r (advanced r ms) (moved-clock _ r)
-      moved-choice (Input number message) r = moved-one r (put_in r number message) (moved-input number message r (slice_get r.world.processes number))
-      moved-choice (Auto most) r = moved-auto most r
-
-      -- what waits at the end
-      record Ended-up (r : System S) (events : List (Event Term)) : Type 0 where
-        left : List Signal
-        moves : Moves events (waiting r) left
-
-      moved-run-from : (script : List Choice) (r : System S) → Ended-up r (run_from code r script)
-      moved-run-from [] r = record { left = waiting r; moves = moves-none (waiting r) }
-      moved-run-from (c ∷ cs) r =
-          let h = choose code r c in
-          let rest = moved-run-from cs h.system in
-          record { left = rest.left; moves = moves-on h.events (run_from code h.system cs) (waiting r) (waiting h.system) rest.left (moved-choice c r) rest.moves }
-
-      -- in a run of any script
-      pub run_in_order : (script : List Choice) → InOrder from to (run code script)
-      run_in_order script =
-          let up = moved-run-from script (record { world = world.empty; states = [] }) in
-          record { delivered = up.moves.delivered; waiting = up.left; are = up.moves.are; shown = up.moves.shown }
+        -- in a run of what may be asked
+        pub run_in_order : (script : List Choice) → AreAsked script → InOrder from to (run code script)
+        run_in_order script asked =
+            let begun : System S = record { world = world.empty; states = [] } in
+            let moves = moved-steps begun (end_of code begun script) (run code script) (run_steps code script asked begun) (empty_sound code IsState lawful) in
+            record { delivered = moves.delivered; waiting = waiting (end_of code begun script); are = moves.are; shown = moves.shown }

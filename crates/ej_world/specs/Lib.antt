@@ -2,6 +2,9 @@ pub mod Agree
 pub mod Auto
 pub mod Choices
 pub mod Delivery
+pub mod Lawful
 pub mod Order
 pub mod Runs
+pub mod Sound
+pub mod Steps
 pub mod World

@@ -1,10 +1,9 @@
 -- The signals of one pair are delivered in the order in which they were sent.
-use Rattle.std.specs.Prelude.{◌≡◌, ℕ, Bool, true, nat_eq, ◌&&◌, ◌⊎◌, if◌then◌else◌, List, [], ◌∷◌, ◌++◌, codes}
-use Rattle.std.specs.List.{AllByRecursion, flat_map}
+use Rattle.std.specs.Prelude.{◌≡◌, ℕ, true, nat_eq, ◌&&◌, if◌then◌else◌, List, [], ◌∷◌, ◌++◌, codes}
+use Rattle.std.specs.List.{flat_map}
 use Rattle.ej_term.specs.Term.{Term, Atom}
 use Rattle.ej_world.specs.declared.event.Event.{Event}
 use Rattle.ej_world.specs.declared.event.Event.TheVariants as event
-use Rattle.ej_world.specs.Choices.{Code, View}
 use Rattle.ej_world.specs.Delivery.{exit_message, is_atom}
 use Rattle.ej_world.specs.World.{Signal, Message, Link, Exit}
 
@@ -53,21 +52,3 @@ pub record InOrder (from to : ℕ) (events : List (Event Term)) : Type 0 where
   pub waiting : List Signal
   pub are : sent from to events ≡ delivered ++ waiting
   pub shown : ShowEach from to delivered (handled from to events)
-
--- an event that a turn may give
-abbrev pub IsOfTurn : Event Term → Type 0
-IsOfTurn (event.Spawn p q how) = Unit {0}
-IsOfTurn (event.Send p q message) = Unit {0}
-IsOfTurn (event.Signal p q reason) = Unit {0}
-IsOfTurn (event.Broken p q reason) = Unit {0}
-IsOfTurn (event.Lost p message) = Unit {0}
-IsOfTurn (event.Recv p message) = Unit {0}
-IsOfTurn (event.Print p term) = Unit {0}
-IsOfTurn (event.Raise p class reason) = Unit {0}
-IsOfTurn (event.Answer p value) = Unit {0}
-IsOfTurn (event.Fault p) = Unit {0}
-IsOfTurn _ = ⊥
-
--- turns give only such events
-abbrev pub GivesOfTurns : {S : Type 0} → Code S → Type 0
-GivesOfTurns {S} code = (transfers : ℕ) (v : View) (state : S) → AllByRecursion IsOfTurn (code.turn transfers v state).events
