@@ -8,7 +8,7 @@ use Rattle.std.proofs.Math.Seq.{drop-append_seam}
 use Rattle.std.proofs.Math.Nat.{zero-add}
 use Rattle.std.proofs.Common.{true≢false}
 use Rattle.ej_term.specs.Term.{Term, Nil}
-use Rattle.term_heap.specs.Cells.{meaning, meanings, Extends}
+use Rattle.term_heap.specs.Cells.{Parts, stored, meaning, meanings, Extends, ExtendsParts}
 use Rattle.term_heap.specs.declared.cell.TermId.{TermId}
 use Rattle.term_heap.specs.declared.cell.Cell.{Cell}
 use Rattle.term_heap.proofs.Meanings.{nth-behind, meanings-push, meanings-more, meanings-from, meanings-at, meanings-before}
@@ -20,10 +20,10 @@ known (Some x) d e = refl
 pub is-known : {X : Type 0} (o : Option X) (x : X) → o ≡ Some x → is_some o ≡ true
 is-known o x e = ap is_some e
 
-abbrev pub seen : List (List ℕ) → List TermId → List Cell → List Term
+abbrev pub seen : List (List ℕ) → Parts → List Cell → List Term
 seen us ps cells = unwrap_or (meanings us ps [] cells) []
 
-abbrev pub Meant : List (List ℕ) → List TermId → List Cell → Type 0
+abbrev pub Meant : List (List ℕ) → Parts → List Cell → Type 0
 Meant us ps cells = is_some (meanings us ps [] cells) ≡ true
 
 pub extends-by : {X : Type 0} (xs ys zs : List X) → zs ≡ xs ++ ys → Extends xs zs
@@ -43,20 +43,19 @@ pub extends-then : {X : Type 0} (xs ys zs : List X) → Extends xs ys → Extend
 extends-then xs ys zs d e = extends-by xs (drop (length xs) ys ++ drop (length ys) zs) zs (e ∙ ap (λ ws. ws ++ drop (length ys) zs) d ∙ append_assoc xs (drop (length xs) ys) (drop (length ys) zs))
 
 -- more texts and parts
-pub grown-meant : (us vs : List (List ℕ)) (ps qs : List TermId) (cells : List Cell) → Extends us vs → Extends ps qs → Meant us ps cells → meanings vs qs [] cells ≡ Some (seen us ps cells)
+pub grown-meant : (us vs : List (List ℕ)) (ps qs : Parts) (cells : List Cell) → Extends us vs → ExtendsParts ps qs → Meant us ps cells → meanings vs qs [] cells ≡ Some (seen us ps cells)
 grown-meant us vs ps qs cells d e m =
     subst (λ (ws : List (List ℕ)). meanings ws qs [] cells ≡ Some (seen us ps cells)) (sym d)
-    (subst (λ (rs : List TermId). meanings (us ++ drop (length us) vs) rs [] cells ≡ Some (seen us ps cells)) (sym e)
-    (meanings-more us (drop (length us) vs) ps (drop (length ps) qs) [] cells (seen us ps cells) (known (meanings us ps [] cells) [] m)))
+    (meanings-more us (drop (length us) vs) ps qs e [] cells (seen us ps cells) (known (meanings us ps [] cells) [] m))
 
-pub grown : (us vs : List (List ℕ)) (ps qs : List TermId) (cells : List Cell) → Extends us vs → Extends ps qs → Meant us ps cells → Meant vs qs cells
+pub grown : (us vs : List (List ℕ)) (ps qs : Parts) (cells : List Cell) → Extends us vs → ExtendsParts ps qs → Meant us ps cells → Meant vs qs cells
 grown us vs ps qs cells d e m = is-known (meanings vs qs [] cells) (seen us ps cells) (grown-meant us vs ps qs cells d e m)
 
-pub grown-seen : (us vs : List (List ℕ)) (ps qs : List TermId) (cells : List Cell) → Extends us vs → Extends ps qs → Meant us ps cells → seen vs qs cells ≡ seen us ps cells
+pub grown-seen : (us vs : List (List ℕ)) (ps qs : Parts) (cells : List Cell) → Extends us vs → ExtendsParts ps qs → Meant us ps cells → seen vs qs cells ≡ seen us ps cells
 grown-seen us vs ps qs cells d e m = ap (λ o. unwrap_or o []) (grown-meant us vs ps qs cells d e m)
 
 -- one more cell
-pub pushed-cells : (us : List (List ℕ)) (ps : List TermId) (cells : List Cell) (cell : Cell) → Meant us ps cells → IsSome (meaning us ps (seen us ps cells) cell)
+pub pushed-cells : (us : List (List ℕ)) (ps : Parts) (cells : List Cell) (cell : Cell) → Meant us ps cells → IsSome (meaning us ps (seen us ps cells) cell)
     → (t : Term) × (meaning us ps (seen us ps cells) cell ≡ Some t) × (meanings us ps [] (cells ++ cell ∷ []) ≡ Some (seen us ps cells ++ t ∷ []))
 pushed-cells us ps cells cell m is = with_term (meaning us ps (seen us ps cells) cell) refl is
   where
@@ -65,27 +64,27 @@ pushed-cells us ps cells cell m is = with_term (meaning us ps (seen us ps cells)
     with_term std.None e i = absurd (true≢false (sym i))
     with_term (Some t) e i = (t, e, meanings-push us ps [] cells (seen us ps cells) cell t (known (meanings us ps [] cells) [] m) e)
 
-pub pushed : (b : Bool) (us : List (List ℕ)) (ps : List TermId) (cells news : List Cell) (cell : Cell) → Meant us ps cells → IsSome (meaning us ps (seen us ps cells) cell)
+pub pushed : (b : Bool) (us : List (List ℕ)) (ps : Parts) (cells news : List Cell) (cell : Cell) → Meant us ps cells → IsSome (meaning us ps (seen us ps cells) cell)
     → news ≡ (if b then cells ++ cell ∷ [] else cells) → Meant us ps news
 pushed true us ps cells news cell m is e =
     let p = pushed-cells us ps cells cell m is in
     subst (λ (zs : List Cell). Meant us ps zs) (sym e) (is-known (meanings us ps [] (cells ++ cell ∷ [])) (seen us ps cells ++ p.0 ∷ []) p.2)
 pushed false us ps cells news cell m is e = subst (λ (zs : List Cell). Meant us ps zs) (sym e) m
 
-pub pushed-seen : (b : Bool) (us : List (List ℕ)) (ps : List TermId) (cells news : List Cell) (cell : Cell) → Meant us ps cells → IsSome (meaning us ps (seen us ps cells) cell)
+pub pushed-seen : (b : Bool) (us : List (List ℕ)) (ps : Parts) (cells news : List Cell) (cell : Cell) → Meant us ps cells → IsSome (meaning us ps (seen us ps cells) cell)
     → news ≡ (if b then cells ++ cell ∷ [] else cells) → Extends (seen us ps cells) (seen us ps news)
 pushed-seen true us ps cells news cell m is e =
     let p = pushed-cells us ps cells cell m is in
     extends-by (seen us ps cells) (p.0 ∷ []) (seen us ps news) (ap (seen us ps) e ∙ ap (λ o. unwrap_or o []) p.2)
 pushed-seen false us ps cells news cell m is e = extends-by (seen us ps cells) [] (seen us ps news) (ap (seen us ps) e ∙ sym (append-nil (seen us ps cells)))
 
-pub seen-length : (us : List (List ℕ)) (ps : List TermId) (cells : List Cell) → Meant us ps cells → length (seen us ps cells) ≡ length cells
+pub seen-length : (us : List (List ℕ)) (ps : Parts) (cells : List Cell) → Meant us ps cells → length (seen us ps cells) ≡ length cells
 seen-length us ps cells m =
     let f = meanings-from us ps [] cells (seen us ps cells) (known (meanings us ps [] cells) [] m) in
     ap length f.1 ∙ f.2
 
 -- the new cell's term stands at its place
-pub pushed-term : (us : List (List ℕ)) (ps : List TermId) (cells news : List Cell) (cell : Cell) (place : ℕ) → Meant us ps cells → IsSome (meaning us ps (seen us ps cells) cell)
+pub pushed-term : (us : List (List ℕ)) (ps : Parts) (cells news : List Cell) (cell : Cell) (place : ℕ) → Meant us ps cells → IsSome (meaning us ps (seen us ps cells) cell)
     → news ≡ cells ++ cell ∷ [] → place ≡ length cells → slice_get (seen us ps news) place ≡ meaning us ps (seen us ps cells) cell
 pushed-term us ps cells news cell place m is e at =
     let p = pushed-cells us ps cells cell m is in
@@ -93,25 +92,34 @@ pushed-term us ps cells news cell place m is e at =
     ∙ ap (slice_get (seen us ps cells ++ p.0 ∷ [])) (at ∙ sym (seen-length us ps cells m)) ∙ nth-behind (seen us ps cells) p.0 [] ∙ sym p.1
 
 -- the cell at a place
-pub cell-term : (us : List (List ℕ)) (ps : List TermId) (cells : List Cell) (place : ℕ) (cell : Cell) → Meant us ps cells → slice_get cells place ≡ Some cell
+pub cell-term : (us : List (List ℕ)) (ps : Parts) (cells : List Cell) (place : ℕ) (cell : Cell) → Meant us ps cells → slice_get cells place ≡ Some cell
     → (t : Term) × (meaning us ps (seen us ps cells) cell ≡ Some t) × (slice_get (seen us ps cells) place ≡ Some t)
 cell-term us ps cells place cell m g =
     let r = meanings-at us ps [] cells (seen us ps cells) place cell (known (meanings us ps [] cells) [] m) g in
     (r.0, r.1, ap (slice_get (seen us ps cells)) (sym (zero-add place)) ∙ r.2)
 
-pub cell-is : (us : List (List ℕ)) (ps : List TermId) (cells : List Cell) (place : ℕ) (cell : Cell) → Meant us ps cells → slice_get cells place ≡ Some cell
+pub cell-is : (us : List (List ℕ)) (ps : Parts) (cells : List Cell) (place : ℕ) (cell : Cell) → Meant us ps cells → slice_get cells place ≡ Some cell
     → meaning us ps (seen us ps cells) cell ≡ Some (unwrap_or (slice_get (seen us ps cells) place) Nil)
 cell-is us ps cells place cell m g =
     let r = cell-term us ps cells place cell m g in
     r.1 ∙ ap (λ o. Some (unwrap_or o Nil)) (sym r.2)
 
 -- it has it by the terms in front of its place
-pub cell-before : (us : List (List ℕ)) (ps : List TermId) (cells : List Cell) (place : ℕ) (cell : Cell) → Meant us ps cells → slice_get cells place ≡ Some cell → IsSome (meaning us ps (take place (seen us ps cells)) cell)
+pub cell-before : (us : List (List ℕ)) (ps : Parts) (cells : List Cell) (place : ℕ) (cell : Cell) → Meant us ps cells → slice_get cells place ≡ Some cell → IsSome (meaning us ps (take place (seen us ps cells)) cell)
 cell-before us ps cells place cell m g =
     let r = meanings-before us ps [] cells (seen us ps cells) place cell (known (meanings us ps [] cells) [] m) g in
     is-known _ r.0 (ap (λ k. meaning us ps (take k (seen us ps cells)) cell) (sym (zero-add place)) ∙ r.1)
 
 -- an id that is held is below the count of cells
-pub held-within : (us : List (List ℕ)) (ps : List TermId) (cells : List Cell) (place : ℕ) → Meant us ps cells → IsSome (slice_get (seen us ps cells) place) → place < length cells
+pub held-within : (us : List (List ℕ)) (ps : Parts) (cells : List Cell) (place : ℕ) → Meant us ps cells → IsSome (slice_get (seen us ps cells) place) → place < length cells
 held-within us ps cells place m is =
     subst (λ n. place < n) (seen-length us ps cells m) (slice_get_within (seen us ps cells) place _ (known (slice_get (seen us ps cells) place) Nil is))
+
+pub extends-parts-then : (ps qs rs : Parts) → ExtendsParts ps qs → ExtendsParts qs rs → ExtendsParts ps rs
+extends-parts-then ps qs rs d e = record { ids = extends-then ps.ids qs.ids rs.ids d.ids e.ids; maps = extends-then ps.maps qs.maps rs.maps d.maps e.maps }
+
+pub more-ids : (b : Bool) (ids new news : List TermId) (maps : List (List (TermId × TermId))) → news ≡ (if b then ids ++ new else ids) → ExtendsParts (stored ids maps) (stored news maps)
+more-ids b ids new news maps e = record { ids = extends-if b ids new news e; maps = extends-itself maps }
+
+pub more-maps : (ids : List TermId) (maps news : List (List (TermId × TermId))) → Extends maps news → ExtendsParts (stored ids maps) (stored ids news)
+more-maps ids maps news e = record { ids = extends-itself ids; maps = e }

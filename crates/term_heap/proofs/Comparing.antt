@@ -1,17 +1,14 @@
 -- What a step of the comparison does to the order of what is left.
-use Rattle.std.proofs.Common.{◌≡◌, ℕ, ◌+◌, nat_le, List, [], ◌∷◌, ◌++◌, length, map, take, drop, slice_get, Some, refl, sym, ap, ◌∙◌, suc, arith}
+use Rattle.std.proofs.Common.{◌≡◌, ℕ, ◌+◌, List, [], ◌∷◌, ◌++◌, length, map, Some, option_and_then, refl, sym, ap, ◌∙◌, zero, suc, arith}
 use Rattle.std.specs.Ordering.{ordering_then}
-use Rattle.std.proofs.lemmas.Option.{cond_some}
-use Rattle.std.proofs.lemmas.List.{length-map}
-use Rattle.std.proofs.lemmas.Grind.{common_steps}
-use Rattle.ej_term.specs.Term.{Term, terms}
+use Rattle.ej_term.specs.Term.{Term, Pair, terms}
 use Rattle.ej_term.specs.Order.{size, count, compare, compare_each, compare_keys, compare_values}
-use Rattle.ej_term.proofs.Options.{chained}
+use Rattle.ej_term.proofs.Options.{unsome}
 use Rattle.ej_term.proofs.OrderCode.{then-assoc}
-use Rattle.term_heap.specs.Cells.{pairs, run, terms_of, parts_of}
+use Rattle.term_heap.specs.Cells.{Parts, from_entries, term_for, part_at, parts_of}
+use Rattle.term_heap.specs.Entries.{pairs}
 use Rattle.term_heap.specs.Works.{weight, weight_each, weight_pairs}
-use Rattle.term_heap.specs.declared.cell.TermId.{TermId}
-use Rattle.term_heap.proofs.Meanings.{length-every}
+use Rattle.term_heap.proofs.Meanings.{both-parts}
 
 -- the sum of these terms' weights
 abbrev pub weights : List Term → ℕ
@@ -70,9 +67,14 @@ values-each (k ∷ ks) [] ls ws e d = absurd (omega (arith, e))
 values-each ks vs [] (w ∷ ws) e d = absurd (omega (arith, d))
 values-each ks vs (l ∷ ls) [] e d = absurd (omega (arith, d))
 
--- the length of a run's terms
-pub parts-length : (ps : List TermId) (ts : List Term) (first count : ℕ) (xs : List Term) → parts_of ps ts first count ≡ Some xs → length xs ≡ count
-parts-length ps ts first count xs e =
-    let f = chained (terms_of ts) (run ps first count) xs e in
-    let r = cond_some (nat_le (first + count) (length ps)) (take count (drop first ps)) f.0 f.1 in
-    length-every (map (λ (id : TermId). slice_get ts id.0) f.0) xs f.2 ∙ length-map f.0 (λ (id : TermId). slice_get ts id.0) ∙ ap length (sym r.1) ∙ grind (arith, common_steps, r.0)
+-- the length of the terms of so many parts
+pub parts-length : (ps : Parts) (ts : List Term) (first count : ℕ) (xs : List Term) → parts_of ps ts first count ≡ Some xs → length xs ≡ count
+parts-length ps ts first zero xs e = ap length (sym (unsome [] xs e))
+parts-length ps ts first (suc count) xs e =
+    let b = both-parts (◌∷◌) (option_and_then (term_for ts) (part_at ps first)) (parts_of ps ts (suc first) count) xs e in
+    ap length (sym b.4) ∙ ap suc (parts-length ps ts (suc first) count b.1 b.3)
+
+-- entries as keys and values
+pub as-pairs : (us : List (Term × Term)) → from_entries us ≡ pairs (map (λ e. e.0) us) (map (λ e. e.1) us)
+as-pairs [] = refl
+as-pairs (u ∷ us) = ap (Pair u.0 u.1) (as-pairs us)

@@ -7,7 +7,7 @@ use Rattle.term_heap.specs.declared.heap.Heap.{Heap}
 use Rattle.term_heap.specs.View.{terms_in, parts_in, texts_in, Holds, Stands, term_of, Keeps}
 use Rattle.term_heap.specs.Held.{HoldsEach, terms_at}
 use Rattle.term_heap.proofs.Made.{extends-get}
-use Rattle.term_heap.proofs.Adding.{known, is-known, extends-then}
+use Rattle.term_heap.proofs.Adding.{known, is-known, extends-then, extends-parts-then}
 
 -- an id of the heap stands for its term
 pub stands-now : (heap : Heap) (id : TermId) → Holds heap id → Stands heap id (term_of heap id)
@@ -47,6 +47,6 @@ kept-terms old new (id ∷ ids) keeps all =
 pub keeps-then : (old new last : Heap) → Keeps old new → Keeps new last → Keeps old last
 keeps-then old new last first more = record {
   terms = extends-then (terms_in old) (terms_in new) (terms_in last) first.terms more.terms;
-  parts = extends-then (parts_in old) (parts_in new) (parts_in last) first.parts more.parts;
+  parts = extends-parts-then (parts_in old) (parts_in new) (parts_in last) first.parts more.parts;
   texts = extends-then (texts_in old) (texts_in new) (texts_in last) first.texts more.texts;
 }

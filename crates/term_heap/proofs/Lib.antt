@@ -1,4 +1,5 @@
 pub mod Meanings
+pub mod Places
 pub mod Adding
 pub mod Made
 pub mod Apart
@@ -6,8 +7,10 @@ pub mod Comparing
 pub mod Opening
 pub mod Stepping
 pub mod Putting
+pub mod Searching
+pub mod HeapBounds
+pub mod MapTrees
 pub mod Merging
-pub mod Mapped
 pub mod Kept
 pub mod Sharing
 pub mod Loading

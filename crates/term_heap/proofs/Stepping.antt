@@ -1,5 +1,5 @@
 -- Steps of a comparison.
-use Rattle.std.proofs.Common.{◌≡◌, ℕ, ◌+◌, ◌-◌, ◌<◌, nat_le, List, [], ◌∷◌, ◌++◌, length, map, take, drop, slice_get, Some, option_and_then, unwrap_or, refl, sym, ap, ap₂, subst, ◌∙◌, zero, suc, arith}
+use Rattle.std.proofs.Common.{◌≡◌, ℕ, ◌+◌, ◌-◌, ◌<◌, List, [], ◌∷◌, ◌++◌, length, map, slice_get, Some, option_and_then, unwrap_or, refl, sym, ap, ap₂, subst, ◌∙◌, zero, suc, arith}
 use Rattle.std.specs.Prelude.{Result, IfOk, Option, IfNone}
 use Rattle.std.specs.Prelude as std
 use Rattle.std.specs.Ordering.{nat_cmp}
@@ -8,19 +8,18 @@ use Rattle.std.specs.List.{All}
 use Rattle.std.specs.Ordering.{ordering_then}
 use Rattle.std.specs.declared.cmp.Ordering.{Ordering}
 use Rattle.std.specs.declared.cmp.Ordering.TheVariants.{Less, Equal, Greater}
-use Rattle.std.proofs.lemmas.Option.{cond_some, none-some}
 use Rattle.std.proofs.lemmas.List.{map-append}
 use Rattle.std.proofs.lemmas.List.Elements.{All-nil, All-cons, All-append, All-take}
 use Rattle.std.proofs.Math.Seq.{take-append_seam}
-use Rattle.std.proofs.lemmas.Grind.{common_steps}
 use Rattle.ej_term.specs.Term.{Term, Tuple, Nil, Terms, None, More, terms}
 use Rattle.ej_term.specs.Order.{compare, compare_each, size}
 use Rattle.ej_term.proofs.OrderLaws.{order-exact, second-tied}
-use Rattle.ej_term.proofs.Options.{unsome, chained, first-every}
 use Rattle.ej_term.proofs.OrderCode.{then-assoc}
 use Rattle.std.specs.declared.alloc.AllocError.{AllocError}
 use Rattle.std.specs.Prelude.{Ok, Err}
-use Rattle.term_heap.specs.Cells.{run, terms_of, parts_of, meaning}
+use Rattle.term_heap.specs.Cells.{Parts, term_for, part_at, parts_of, meaning}
+use Rattle.term_heap.proofs.Meanings.{both-parts}
+use Rattle.term_heap.proofs.Places.{Few}
 use Rattle.term_heap.specs.Works.{opened, term_at, run_at, work_order, order_onto, pending_order, IsWork, weight, weight_each, work_weight, weigh, Stepped}
 use Rattle.term_heap.specs.declared.cell.TermId.{TermId}
 use Rattle.term_heap.specs.declared.cell.Cell.{Cell}
@@ -33,14 +32,14 @@ pub order-append : (l : Ordering) (xs ys : List Ordering) → order_onto l (xs +
 order-append l [] ys = refl
 order-append l (x ∷ xs) ys = order-append (ordering_then x l) xs ys
 
-pub weigh-append : (ps : List TermId) (ts : List Term) (xs ys : List Work) → weigh ps ts (xs ++ ys) ≡ weigh ps ts xs + weigh ps ts ys
+pub weigh-append : (ps : Parts) (ts : List Term) (xs ys : List Work) → weigh ps ts (xs ++ ys) ≡ weigh ps ts xs + weigh ps ts ys
 weigh-append ps ts [] ys = omega arith
 weigh-append ps ts (x ∷ xs) ys = ap (λ n. work_weight ps ts x + n) (weigh-append ps ts xs ys) ∙ omega arith
 
-pub pending-append : (ps : List TermId) (ts : List Term) (xs ys : List Work) → pending_order ps ts (xs ++ ys) ≡ order_onto (pending_order ps ts xs) (map (work_order ps ts) ys)
+pub pending-append : (ps : Parts) (ts : List Term) (xs ys : List Work) → pending_order ps ts (xs ++ ys) ≡ order_onto (pending_order ps ts xs) (map (work_order ps ts) ys)
 pending-append ps ts xs ys = ap (order_onto Equal) (map-append (work_order ps ts) xs ys) ∙ order-append Equal (map (work_order ps ts) xs) (map (work_order ps ts) ys)
 
-pub stepped : (ps : List TermId) (ts : List Term) (r : Ordering × List Work) (work : Work) (o : Ordering) (old new : List Work)
+pub stepped : (ps : Parts) (ts : List Term) (r : Ordering × List Work) (work : Work) (o : Ordering) (old new : List Work)
     → OpensTo ps ts r (work_order ps ts work) (work_weight ps ts work) → o ≡ r.0 → new ≡ old ++ r.1 → Stepped ps ts work o old new
 stepped ps ts r work o old new opens is more = record {
   same = opens.order (pending_order ps ts old) ∙ ap₂ ordering_then (sym is) (sym (pending-append ps ts old r.1) ∙ ap (pending_order ps ts) (sym more));
@@ -49,39 +48,23 @@ stepped ps ts r work o old new opens is more = record {
 }
 
 -- two ids, by their cells
-pub stepped-terms : (us : List (List ℕ)) (ps : List TermId) (ts : List Term) (x y : TermId) (a b : Cell) (r : Result Ordering AllocError) (old new : List Work)
+pub stepped-terms : (us : List (List ℕ)) (ps : Parts) (few : Few ps) (ts : List Term) (x y : TermId) (a b : Cell) (r : Result Ordering AllocError) (old new : List Work)
     → meaning us ps ts a ≡ Some (term_at ts x) → meaning us ps ts b ≡ Some (term_at ts y)
     → IfOk r (λ o. o ≡ (opened us a b).0) → IfOk r (λ _. new ≡ old ++ (opened us a b).1) → IfOk r (λ o. Stepped ps ts (w.Terms x y) o old new)
-stepped-terms us ps ts x y a b (Ok o) old new ea eb is more = stepped ps ts (opened us a b) (w.Terms x y) o old new (opened-right us ps ts a b (term_at ts x) (term_at ts y) ea eb) is more
-stepped-terms us ps ts x y a b (Err e) old new ea eb is more = tt
+stepped-terms us ps few ts x y a b (Ok o) old new ea eb is more = stepped ps ts (opened us a b) (w.Terms x y) o old new (opened-right us ps few ts a b (term_at ts x) (term_at ts y) ea eb) is more
+stepped-terms us ps few ts x y a b (Err e) old new ea eb is more = tt
 
--- the first of a run, and the others
-pub run-split : {X : Type 0} (xs : List X) (first count : ℕ) (r : List X) (x : X) → 0 < count → run xs first count ≡ Some r → slice_get xs first ≡ Some x
-    → (rest : List X) × (r ≡ x ∷ rest) × (run xs (first + 1) (count - 1) ≡ Some rest)
-run-split xs first count r x positive e g =
-    let c = cond_some (nat_le (first + count) (length xs)) (take count (drop first xs)) r e in
-    let next : suc first ≡ first + 1 = omega arith in
-    let here : drop first xs ≡ x ∷ drop (first + 1) xs = drop-at xs first x g ∙ ap (λ k. x ∷ drop k xs) next in
-    let n : count ≡ suc (count - 1) = omega (arith, positive) in (
-      take (count - 1) (drop (first + 1) xs),
-      sym c.1 ∙ ap₂ take n here,
-      grind (arith, common_steps, c.0, positive),
-    )
-  where
-    drop-at : {X : Type 0} (xs : List X) (i : ℕ) (x : X) → slice_get xs i ≡ Some x → drop i xs ≡ x ∷ drop (suc i) xs
-    drop-at [] i x g = absurd (none-some x g)
-    drop-at (y ∷ xs) zero x g = ap (λ z. z ∷ xs) (unsome y x g)
-    drop-at (y ∷ xs) (suc i) x g = drop-at xs i x g
-
-pub parts-split : (ps : List TermId) (ts : List Term) (first count : ℕ) (xs : List Term) (id : TermId) → 0 < count → parts_of ps ts first count ≡ Some xs → slice_get ps first ≡ Some id
+-- the first of so many parts, and the others
+pub parts-split : (ps : Parts) (ts : List Term) (first count : ℕ) (xs : List Term) (id : TermId) → 0 < count → parts_of ps ts first count ≡ Some xs → part_at ps first ≡ Some id
     → (x : Term) × (rest : List Term) × (xs ≡ x ∷ rest) × (slice_get ts id.0 ≡ Some x) × (parts_of ps ts (first + 1) (count - 1) ≡ Some rest)
-parts-split ps ts first count xs id positive e g =
-    let f = chained (terms_of ts) (run ps first count) xs e in
-    let s = run-split ps first count f.0 id positive f.1 g in
-    let q = first-every (slice_get ts id.0) (map (λ (i : TermId). slice_get ts i.0) s.0) xs (ap (terms_of ts) (sym s.1) ∙ f.2) in
-    (q.0, q.1, sym q.4, q.2, ap (option_and_then (terms_of ts)) s.2 ∙ q.3)
+parts-split ps ts first zero xs id positive e g = absurd (omega (arith, positive))
+parts-split ps ts first (suc count) xs id positive e g =
+    let b = both-parts (◌∷◌) (option_and_then (term_for ts) (part_at ps first)) (parts_of ps ts (suc first) count) xs e in
+    let here : first + 1 ≡ suc first = omega arith in
+    let same : suc count - 1 ≡ count = omega arith in
+    (b.0, b.1, sym b.4, sym (ap (option_and_then (term_for ts)) g) ∙ b.2, ap₂ (parts_of ps ts) here same ∙ b.3)
 
-pub runs-open : (ps : List TermId) (ts : List Term) (x y count : ℕ) (p q : TermId) → IsWork ps ts (w.Runs x y count) → 0 < count → slice_get ps x ≡ Some p → slice_get ps y ≡ Some q
+pub runs-open : (ps : Parts) (ts : List Term) (x y count : ℕ) (p q : TermId) → IsWork ps ts (w.Runs x y count) → 0 < count → part_at ps x ≡ Some p → part_at ps y ≡ Some q
     → OpensTo ps ts (Equal, w.Runs (x + 1) (y + 1) (count - 1) ∷ w.Terms p q ∷ []) (work_order ps ts (w.Runs x y count)) (work_weight ps ts (w.Runs x y count))
 runs-open ps ts x y count p q is positive gp gq =
     let a = parts-split ps ts x count (run_at ps ts x count) p positive (known (parts_of ps ts x count) [] is.0) gp in
@@ -104,7 +87,7 @@ runs-open ps ts x y count p q is positive gp gq =
     }
 
 -- what is compared with itself is a tie at once
-stepped-tie : (ps : List TermId) (ts : List Term) (work : Work) (old : List Work) → work_order ps ts work ≡ Equal → 0 < work_weight ps ts work → Stepped ps ts work Equal old old
+stepped-tie : (ps : Parts) (ts : List Term) (work : Work) (old : List Work) → work_order ps ts work ≡ Equal → 0 < work_weight ps ts work → Stepped ps ts work Equal old old
 stepped-tie ps ts work old tie positive = record {
   same = ap (λ o. ordering_then o (pending_order ps ts old)) tie;
   fewer = omega (arith, positive);
@@ -121,12 +104,12 @@ itself t = (order-exact t t).1 refl
 each-itself : (ts : Terms) → compare_each ts ts ≡ Equal
 each-itself ts = second-tied (nat_cmp (size ts) (size ts)) (compare_each ts ts) (itself (Tuple ts))
 
-pub same-ids : (ps : List TermId) (ts : List Term) (work : Work) (x y : TermId) (old : List Work) → work ≡ w.Terms x y → x.0 ≡ y.0 → Stepped ps ts work Equal old old
+pub same-ids : (ps : Parts) (ts : List Term) (work : Work) (x y : TermId) (old : List Work) → work ≡ w.Terms x y → x.0 ≡ y.0 → Stepped ps ts work Equal old old
 same-ids ps ts work x y old is same =
     subst (λ (k : Work). Stepped ps ts k Equal old old) (sym is)
     (stepped-tie ps ts (w.Terms x y) old (ap (λ n. compare (term_at ts x) (unwrap_or (slice_get ts n) Nil)) (sym same) ∙ itself (term_at ts x)) (weight-positive (term_at ts x)))
 
-pub same-runs : (ps : List TermId) (ts : List Term) (work : Work) (x y n : ℕ) (old : List Work) → work ≡ w.Runs x y n → x ≡ y → Stepped ps ts work Equal old old
+pub same-runs : (ps : Parts) (ts : List Term) (work : Work) (x y n : ℕ) (old : List Work) → work ≡ w.Runs x y n → x ≡ y → Stepped ps ts work Equal old old
 same-runs ps ts work x y n old is same =
     subst (λ (k : Work). Stepped ps ts k Equal old old) (sym is)
     (stepped-tie ps ts (w.Runs x y n) old (ap (λ k. compare_each (terms (run_at ps ts x n)) (terms (run_at ps ts k n))) (sym same) ∙ each-itself (terms (run_at ps ts x n))) (have-weight (terms (run_at ps ts x n))))
@@ -142,7 +125,7 @@ abbrev pub with_next : List Work → Option Work → List Work
 with_next works next = works ++ option_to_list next
 
 -- a step that tells
-pub step-ends : (ps : List TermId) (ts : List Term) (work : Work) (o d : Ordering) (old popped new : List Work)
+pub step-ends : (ps : Parts) (ts : List Term) (work : Work) (o d : Ordering) (old popped new : List Work)
     → Stepped ps ts work o popped new → pending_order ps ts old ≡ d → old ≡ popped ++ work ∷ [] → (o ≡ Equal → ⊥) → o ≡ d
 step-ends ps ts work o d old popped new s e is differs = decided o differs (pending_order ps ts new) ∙ sym s.same ∙ sym (pending-append ps ts popped (work ∷ [])) ∙ ap (pending_order ps ts) (sym is) ∙ e
   where
@@ -152,18 +135,18 @@ step-ends ps ts work o d old popped new s e is differs = decided o differs (pend
     decided Greater h l = refl
 
 -- a step that leaves a tie
-pub step-goes : (ps : List TermId) (ts : List Term) (work : Work) (o d : Ordering) (old popped new : List Work)
+pub step-goes : (ps : Parts) (ts : List Term) (work : Work) (o d : Ordering) (old popped new : List Work)
     → Stepped ps ts work o popped new → pending_order ps ts old ≡ d → old ≡ popped ++ work ∷ [] → o ≡ Equal → pending_order ps ts new ≡ d
 step-goes ps ts work o d old popped new s e is tie = sym (s.same ∙ ap (λ q. ordering_then q (pending_order ps ts new)) tie) ∙ sym (pending-append ps ts popped (work ∷ [])) ∙ ap (pending_order ps ts) (sym is) ∙ e
 
 all-front : (P : Work → Type 0) (xs ys : List Work) → All P (xs ++ ys) → All P xs
 all-front P xs ys all = subst (λ (ws : List Work). All P ws) (take-append_seam xs ys) (All-take P (length xs) (xs ++ ys) all)
 
-pub step-works : (ps : List TermId) (ts : List Term) (work : Work) (o : Ordering) (old popped new : List Work)
+pub step-works : (ps : Parts) (ts : List Term) (work : Work) (o : Ordering) (old popped new : List Work)
     → Stepped ps ts work o popped new → All (IsWork ps ts) old → old ≡ popped ++ work ∷ [] → All (IsWork ps ts) new
 step-works ps ts work o old popped new s all is = s.works (all-front (IsWork ps ts) popped (work ∷ []) (subst (λ (ws : List Work). All (IsWork ps ts) ws) is all))
 
-pub step-fewer : (ps : List TermId) (ts : List Term) (work : Work) (o : Ordering) (old popped new : List Work)
+pub step-fewer : (ps : Parts) (ts : List Term) (work : Work) (o : Ordering) (old popped new : List Work)
     → Stepped ps ts work o popped new → old ≡ popped ++ work ∷ [] → weigh ps ts new < weigh ps ts old
 step-fewer ps ts work o old popped new s is =
     let all : weigh ps ts old ≡ weigh ps ts popped + (work_weight ps ts work + 0) = ap (weigh ps ts) is ∙ weigh-append ps ts popped (work ∷ []) in

@@ -1,18 +1,19 @@
 -- A heap as the terms that its ids stand for.
 use Rattle.std.specs.Prelude.{◌≡◌, ℕ, List, take, slice_get, Option, Some, unwrap_or, IsSome}
 use Rattle.ej_term.specs.Term.{Term, Nil}
-use Rattle.term_heap.specs.Cells.{meaning, all_meant, Extends}
+use Rattle.term_heap.specs.Cells.{Parts, stored, meaning, all_meant, Extends, ExtendsParts}
+use Rattle.forest.specs.View.{lists_in}
 use Rattle.term_heap.specs.declared.cell.TermId.{TermId}
 use Rattle.term_heap.specs.declared.cell.Cell.{Cell}
 use Rattle.term_heap.specs.declared.heap.Heap.{Heap}
 
+-- the parts by their places
+abbrev pub parts_in : Heap → Parts
+parts_in heap = stored heap.parts.items (lists_in heap.maps)
+
 -- the terms by their ids
 abbrev pub terms_in : Heap → List Term
-terms_in heap = all_meant heap.atoms.keys heap.parts.items heap.cells.items
-
--- the parts by their places
-abbrev pub parts_in : Heap → List TermId
-parts_in heap = heap.parts.items
+terms_in heap = all_meant heap.atoms.keys (parts_in heap) heap.cells.items
 
 -- the texts of atoms by their places
 abbrev pub texts_in : Heap → List (List ℕ)
@@ -41,5 +42,5 @@ NamesEarlier heap id cell = IsSome (meaning (texts_in heap) (parts_in heap) (tak
 -- each earlier id keeps its term, and each place its part or text
 pub record Keeps (old new : Heap) : Type 0 where
   pub terms : Extends (terms_in old) (terms_in new)
-  pub parts : Extends (parts_in old) (parts_in new)
+  pub parts : ExtendsParts (parts_in old) (parts_in new)
   pub texts : Extends (texts_in old) (texts_in new)

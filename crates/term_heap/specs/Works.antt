@@ -6,7 +6,7 @@ use Rattle.std.specs.declared.cmp.Ordering.{Ordering}
 use Rattle.std.specs.declared.cmp.Ordering.TheVariants.{Equal}
 use Rattle.ej_term.specs.Term.{Term, Fun, Tuple, Map, Nil, Cons, Terms, None, More, Pairs, Empty, Pair, terms}
 use Rattle.ej_term.specs.Order.{compare, compare_each, compare_names, compare_numbers, compare_functions}
-use Rattle.term_heap.specs.Cells.{parts_of}
+use Rattle.term_heap.specs.Cells.{Parts, parts_of}
 use Rattle.term_heap.specs.declared.cell.TermId.{TermId}
 use Rattle.term_heap.specs.declared.cell.Cell.{Cell}
 use Rattle.term_heap.specs.declared.cell.Cell.TheVariants as c
@@ -47,11 +47,11 @@ opened texts a b = (nat_cmp (kind a) (kind b), [])
 abbrev pub term_at : List Term → TermId → Term
 term_at ts id = unwrap_or (slice_get ts id.0) Nil
 
-abbrev pub run_at : List TermId → List Term → (first count : ℕ) → List Term
+abbrev pub run_at : Parts → List Term → (first count : ℕ) → List Term
 run_at parts ts first count = unwrap_or (parts_of parts ts first count) []
 
 -- the order of what is still to be compared
-abbrev pub work_order : List TermId → List Term → Work → Ordering
+abbrev pub work_order : Parts → List Term → Work → Ordering
 work_order parts ts (w.Terms a b) = compare (term_at ts a) (term_at ts b)
 work_order parts ts (w.Runs first other count) = compare_each (terms (run_at parts ts first count)) (terms (run_at parts ts other count))
 
@@ -60,11 +60,11 @@ abbrev pub order_onto : Ordering → List Ordering → Ordering
 order_onto later [] = later
 order_onto later (o ∷ os) = order_onto (ordering_then o later) os
 
-abbrev pub pending_order : List TermId → List Term → List Work → Ordering
+abbrev pub pending_order : Parts → List Term → List Work → Ordering
 pending_order parts ts works = order_onto Equal (map (work_order parts ts) works)
 
 -- its ids and runs are there
-abbrev pub IsWork : List TermId → List Term → Work → Type 0
+abbrev pub IsWork : Parts → List Term → Work → Type 0
 IsWork parts ts (w.Terms a b) = IsSome (slice_get ts a.0) × IsSome (slice_get ts b.0)
 IsWork parts ts (w.Runs first other count) = IsSome (parts_of parts ts first count) × IsSome (parts_of parts ts other count)
 
@@ -85,16 +85,16 @@ abbrev mutual
   weight_pairs Empty = 1
   weight_pairs (Pair key value rest) = 1 + weight key + (1 + weight value) + weight_pairs rest
 
-abbrev pub work_weight : List TermId → List Term → Work → ℕ
+abbrev pub work_weight : Parts → List Term → Work → ℕ
 work_weight parts ts (w.Terms a b) = weight (term_at ts a)
 work_weight parts ts (w.Runs first other count) = weight_each (terms (run_at parts ts first count))
 
-abbrev pub weigh : List TermId → List Term → List Work → ℕ
+abbrev pub weigh : Parts → List Term → List Work → ℕ
 weigh parts ts [] = 0
 weigh parts ts (work ∷ works) = work_weight parts ts work + weigh parts ts works
 
 -- a step takes work away and leaves less: what is left is the order
-pub record Stepped (parts : List TermId) (ts : List Term) (work : Work) (order : Ordering) (old new : List Work) : Type 0 where
+pub record Stepped (parts : Parts) (ts : List Term) (work : Work) (order : Ordering) (old new : List Work) : Type 0 where
   pub same : ordering_then (work_order parts ts work) (pending_order parts ts old) ≡ ordering_then order (pending_order parts ts new)
   pub fewer : weigh parts ts new < weigh parts ts old + work_weight parts ts work
   pub works : All (IsWork parts ts) old → All (IsWork parts ts) new

@@ -10,14 +10,18 @@ mod heap;
 mod known;
 mod load;
 mod makers;
+mod maps;
 mod once;
 mod order;
+mod search;
 mod sort;
 mod texts;
+mod trees;
 mod work;
 
 pub use cell::{Cell, TermId};
 pub use heap::Heap;
 pub use load::LoadFault;
+pub use maps::Entries;
 pub use order::compare;
 pub use sort::rising;

@@ -10,8 +10,7 @@ ghost use Rattle.term_heap.specs.Entries.{HoldsEntries, entries_at};
 ghost use Rattle.term_heap.specs.Loaded.{IsLoaded, IsTailLoaded, AreLoaded, ArePairsLoaded, Loads, Untouched};
 
 use crate::cell::TermId;
-use crate::heap::Heap;
-use crate::sort::Entry;
+use crate::heap::{Entry, Heap};
 use ej_term::AsmTerm;
 use sqlite_items::Boxed;
 use std::alloc::AllocError;

@@ -6,12 +6,11 @@ ghost use Rattle.ej_term.specs.Term as term;
 ghost use Rattle.term_heap.specs.View.{Holds, Stands, term_of, Keeps};
 ghost use Rattle.term_heap.specs.Held.{HoldsEach, terms_at};
 ghost use Rattle.term_heap.specs.Entries.{HoldsEntries, entries_at};
-ghost use Rattle.ej_term.specs.Maps.{put_each, rises};
-ghost use Rattle.term_heap.specs.Cells.{pairs};
+ghost use Rattle.ej_term.specs.Maps.{put_each};
 
 use crate::cell::{Cell, TermId};
 use crate::heap::Heap;
-use crate::sort::{keys_and_values, sorted};
+use crate::sort::sorted;
 use std::alloc::AllocError;
 
 // Each of these stands for the term of its arguments, whose ids are ones of the heap, and keeps the term of every
@@ -44,24 +43,8 @@ impl Heap {
         ensures term { IfOk result (λ id. Stands self.new id (term.Map (put_each term.Empty (entries_at self.old pairs.now)))) }
     {
         let entries = sorted(self.alloc(), self, pairs)?;
-        let parts = keys_and_values(self.alloc(), &entries)?;
-        let first = self.push_parts(&parts)?;
-        self.push(Cell::Map(first, entries.len()))
-    }
-
-    /// The map of these keys, which rise, and of a value for each, without a comparison.
-    pub fn rising_map(&mut self, keys: &[TermId], values: &[TermId]) -> Result<TermId, AllocError>
-        requires keys { HoldsEach self.old keys.now }
-        requires values { HoldsEach self.old values.now }
-        requires count { length keys.now ≡ length values.now }
-        requires rise { rises (pairs (terms_at self.old keys.now) (terms_at self.old values.now)) ≡ true }
-        ensures keeps { Keeps self.old self.new }
-        ensures term { IfOk result (λ id. Stands self.new id (term.Map (pairs (terms_at self.old keys.now) (terms_at self.old values.now)))) }
-    {
-        let mut parts = Vec::from_slice(self.alloc(), keys)?;
-        parts.extend_from_slice(values)?;
-        let first = self.push_parts(&parts)?;
-        self.push(Cell::Map(first, keys.len()))
+        let tree = self.collect(&entries)?;
+        self.map_of(tree)
     }
 
     /// The fun of this module, name and arity, with the values of its free variables; an external one has none.

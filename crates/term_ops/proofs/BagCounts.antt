@@ -9,13 +9,12 @@ use Rattle.ej_term.specs.Tests.{equal}
 use Rattle.ej_term.specs.Maps.{put, put_each, value_at, rises, keys, values}
 use Rattle.ej_term.proofs.MapLaws.{laws, equal-terms, equal-itself}
 use Rattle.ej_term.proofs.OrderLaws.{compare-itself}
-use Rattle.term_heap.specs.Cells.{pairs}
+use Rattle.term_heap.specs.Entries.{pairs}
 use Rattle.term_heap.specs.Entries.{twice}
-use Rattle.term_heap.proofs.Mapped.{put_each-rises}
-use Rattle.term_heap.proofs.Putting.{greater, lesser, same-key}
+use Rattle.term_heap.proofs.Putting.{greater, lesser, same-key, put_each-rises}
 use Rattle.term_ops.specs.Bags.{held, more, less, Among, UpTo}
-use Rattle.term_ops.specs.MapParts.{at, Ascending, Goes, Found, Missing}
-use Rattle.term_ops.proofs.MapPartsPlaces.{ascending}
+use Rattle.term_ops.specs.SortedPlaces.{at, Ascending, Goes, Found, Missing}
+use Rattle.term_ops.proofs.SortedPlacing.{ascending}
 
 sides : (i p : ℕ) → (i < p) ⊎ (p ≤ i)
 sides i zero = inr (omega arith)

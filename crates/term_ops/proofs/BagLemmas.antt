@@ -13,8 +13,8 @@ use Rattle.term_heap.specs.View.{term_of}
 use Rattle.term_heap.specs.Held.{terms_at}
 use Rattle.term_heap.specs.Entries.{twice}
 use Rattle.term_ops.specs.Bags.{held, how_many, more, Taken, Among, UpTo}
-use Rattle.term_ops.specs.MapParts.{Ascending, Found, IsPlace}
-use Rattle.term_ops.proofs.MapPartsPlaces.{at-ids}
+use Rattle.term_ops.specs.SortedPlaces.{Ascending, Found, IsPlace}
+use Rattle.term_ops.proofs.SortedPlacing.{at-ids}
 use Rattle.term_ops.proofs.BagCounts.{held-found, held-missing, one-more, one-less, not-missing, zeros, held-zeros, keys-ascend, each-among}
 
 default-same : (xs : List ℕ) (p d e : ℕ) → p < length xs → get_or xs p d ≡ get_or xs p e

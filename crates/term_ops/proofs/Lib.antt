@@ -8,8 +8,7 @@ pub mod ExceptionClasses
 pub mod TuplesReplaced
 pub mod ListsReverse
 pub mod DigitsCharacters
-pub mod MapPartsPlaces
-pub mod MapPartsCells
+pub mod SortedPlacing
 pub mod MapsLookup
 pub mod MapsWords
 pub mod MapsAnswers

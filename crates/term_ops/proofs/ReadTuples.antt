@@ -6,7 +6,7 @@ use Rattle.std.proofs.lemmas.Grind.{common_steps}
 use Rattle.ej_term.specs.Term.{Term, Tuple, Nil, Terms, None, More, terms}
 use Rattle.ej_term.specs.Tuples.{items}
 use Rattle.ej_term.proofs.Options.{mapped, chained, first-every}
-use Rattle.term_heap.specs.Cells.{run, terms_of, parts_of, meaning}
+use Rattle.term_heap.specs.Cells.{Parts, run, terms_of, row_of, meaning}
 use Rattle.term_heap.specs.declared.cell.TermId.{TermId}
 use Rattle.term_heap.specs.declared.cell.Cell.TheVariants as c
 use Rattle.term_heap.proofs.Made.{IsId, term_at}
@@ -38,10 +38,10 @@ pub record AreParts (ps : List TermId) (ts : List Term) (first count : ℕ) (xs 
   pub held : All (IsId ts) (take count (drop first ps))
   pub terms : map (term_at ts) (take count (drop first ps)) ≡ xs
 
-pub parts-known : (ps : List TermId) (ts : List Term) (first count : ℕ) (xs : List Term) → parts_of ps ts first count ≡ Some xs → AreParts ps ts first count xs
+pub parts-known : (ps : Parts) (ts : List Term) (first count : ℕ) (xs : List Term) → row_of ps ts first count ≡ Some xs → AreParts ps.ids ts first count xs
 parts-known ps ts first count xs e =
-    let f = chained (terms_of ts) (run ps first count) xs e in
-    let r = run-is ps first count f.0 f.1 in
+    let f = chained (terms_of ts) (run ps.ids first count) xs e in
+    let r = run-is ps.ids first count f.0 f.1 in
     let k = terms_of-known ts f.0 xs f.2 in
     record {
       within = r.0;
@@ -49,8 +49,8 @@ parts-known ps ts first count xs e =
       terms = ap (λ (ids : List TermId). map (term_at ts) ids) r.1 ∙ k.1;
     }
 
-pub tuple-parts : (us : List (List ℕ)) (ps : List TermId) (ts : List Term) (first count : ℕ) (t : Term) → meaning us ps ts (c.Tuple first count) ≡ Some t
-    → (xs : List Term) × (t ≡ Tuple (terms xs)) × AreParts ps ts first count xs
+pub tuple-parts : (us : List (List ℕ)) (ps : Parts) (ts : List Term) (first count : ℕ) (t : Term) → meaning us ps ts (c.Tuple first count) ≡ Some t
+    → (xs : List Term) × (t ≡ Tuple (terms xs)) × AreParts ps.ids ts first count xs
 tuple-parts us ps ts first count t e =
-    let m = mapped (λ ts. Tuple (terms ts)) (parts_of ps ts first count) t e in
+    let m = mapped (λ ts. Tuple (terms ts)) (row_of ps ts first count) t e in
     (m.0, sym m.2, parts-known ps ts first count m.0 m.1)

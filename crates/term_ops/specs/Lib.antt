@@ -5,5 +5,6 @@ pub mod Choosing
 pub mod Fronts
 pub mod Found
 pub mod Readings
-pub mod MapParts
+pub mod SortedPlaces
+pub mod Lookups
 pub mod Bags

@@ -4,10 +4,10 @@ ghost use Rattle.std.specs.Prelude.{◌≡◌, ℕ, ◌+◌, ◌-◌, ◌<◌, �
 ghost use Rattle.ej_term.specs.Term.{Term};
 ghost use Rattle.term_heap.specs.View.{Holds, term_of};
 ghost use Rattle.term_heap.specs.Held.{HoldsEach, terms_at};
-ghost use Rattle.term_ops.specs.MapParts.{Ascending};
+ghost use Rattle.term_ops.specs.SortedPlaces.{Ascending};
 ghost use Rattle.term_ops.specs.Bags.{held, how_many, more, Taken, Among, UpTo};
 
-use crate::map_parts::place_of;
+use crate::sorted::place_of;
 use std::alloc::{AllocError, Global};
 use term_heap::{Heap, TermId, rising};
 

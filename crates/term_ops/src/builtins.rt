@@ -129,11 +129,11 @@ fn of_two(
 {
     match builtin {
         Builtin::Element => element(heap, a, b),
-        Builtin::MapGet | Builtin::MapsGet => maps::map_get(alloc, heap, a, b),
-        Builtin::IsMapKey | Builtin::MapsIsKey => maps::is_map_key(alloc, heap, a, b),
-        Builtin::MapsFind => maps::find(alloc, heap, a, b),
-        Builtin::MapsRemove => map_update::remove(alloc, heap, a, b),
-        Builtin::MapsMerge => map_update::merge(alloc, heap, a, b),
+        Builtin::MapGet | Builtin::MapsGet => maps::map_get(heap, a, b),
+        Builtin::IsMapKey | Builtin::MapsIsKey => maps::is_map_key(heap, a, b),
+        Builtin::MapsFind => maps::find(heap, a, b),
+        Builtin::MapsRemove => map_update::remove(heap, a, b),
+        Builtin::MapsMerge => map_update::merge(heap, a, b),
         Builtin::IsFunctionOfArity => is_function_of(heap, a, b),
         Builtin::Max => maximum(alloc, heap, a, b),
         Builtin::Min => minimum(alloc, heap, a, b),
@@ -187,8 +187,8 @@ fn of_three(
     match builtin {
         Builtin::SetElement => setelement(alloc, heap, a, b, c),
         Builtin::ListsKeyfind => keyfind(alloc, heap, a, b, c),
-        Builtin::MapsPut => map_update::put(alloc, heap, a, b, c),
-        Builtin::MapsUpdate => map_update::update(alloc, heap, a, b, c),
+        Builtin::MapsPut => map_update::put(heap, a, b, c),
+        Builtin::MapsUpdate => map_update::update(heap, a, b, c),
         Builtin::Raise => raise(alloc, heap, a, b, c),
         _ => unreachable!(),
     }

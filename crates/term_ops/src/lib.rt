@@ -18,13 +18,14 @@ mod guards;
 mod integers;
 mod kinds;
 mod lists;
-mod map_parts;
+mod lookup;
 mod map_update;
 mod maps;
 mod order;
 mod raise;
 mod read;
 mod sized;
+mod sorted;
 mod tuples;
 
 pub use answer::{PureAnswer, Raised};

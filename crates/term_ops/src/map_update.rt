@@ -1,20 +1,17 @@
 //! Builtin functions that make maps (the OTP module maps).
 
-ghost use Rattle.std.specs.Prelude.{◌≡◌, ◌<◌, ◌++◌, length, zip, option_map, option_and_then, IfOk, IfSome, IfNone, OnOk};
-ghost use Rattle.std.specs.List.{remove};
+ghost use Rattle.std.specs.Prelude.{◌≡◌, option_map, option_and_then, IfOk, IfSome};
 ghost use Rattle.ej_term.specs.Maps as spec;
 ghost use Rattle.ej_term.specs.Lists as lists;
-ghost use Rattle.term_heap.specs.Cells.{pairs};
-ghost use Rattle.term_heap.specs.View.{Holds, Stands, term_of, Keeps};
+ghost use Rattle.term_heap.specs.View.{Holds, term_of, Keeps};
 ghost use Rattle.term_heap.specs.Held.{HoldsEach, terms_at};
 ghost use Rattle.term_heap.specs.Entries.{HoldsEntry, HoldsEntries, entry_of, entries_at};
 ghost use Rattle.term_ops.specs.Answers.{Gives};
-ghost use Rattle.term_ops.specs.MapParts.{HasPairs};
 ghost use Rattle.term_ops.specs.Parts.{pair_in};
 
 use crate::answer::PureAnswer;
 use crate::elements::elements;
-use crate::map_parts::{Lookup, look_up, map_parts, place_of};
+use crate::lookup::{Lookup, look_up};
 use crate::maps::{badkey, badmap};
 use crate::raise::{badarg, value};
 use crate::read::tuple;
@@ -26,7 +23,6 @@ type Entry = (TermId, TermId);
 
 /// `maps:put/3`: the map with this value at the key.
 pub(crate) fn put(
-    alloc: Global,
     heap: &mut Heap,
     key: TermId,
     value: TermId,
@@ -38,46 +34,14 @@ pub(crate) fn put(
     ensures keeps { Keeps heap.old heap.new }
     ensures answer { IfOk result (λ a. Gives heap.new a (spec.maps_put (term_of heap.old key) (term_of heap.old value) (term_of heap.old map))) }
 {
-    let Some((keys, values)) = map_parts(heap, map) else {
-        return badmap(heap, map);
-    };
-    let (keys, values) = with_value(alloc, heap, keys, values, key, value)?;
-    Ok(PureAnswer::Value(heap.rising_map(&keys, &values)?))
-}
-
-/// The keys and values with this value at the key.
-fn with_value(
-    alloc: Global,
-    heap: &Heap,
-    keys: &[TermId],
-    values: &[TermId],
-    key: TermId,
-    value: TermId,
-) -> Result<(Vec<TermId>, Vec<TermId>), AllocError>
-    requires map { HasPairs heap.now (pairs (terms_at heap.now keys.now) (terms_at heap.now values.now)) keys.now values.now }
-    requires key { Holds heap.now key }
-    requires value { Holds heap.now value }
-    ensures { IfOk result (λ new. HasPairs heap.now (spec.put (term_of heap.now key) (term_of heap.now value) (pairs (terms_at heap.now keys.now) (terms_at heap.now values.now))) new.0.items new.1.items) }
-{
-    let place = place_of(alloc, heap, keys, key)?;
-    let mut keys = Vec::from_slice(alloc, keys)?;
-    let mut values = Vec::from_slice(alloc, values)?;
-    match place {
-        Ok(place) => {
-            values[place] = value;
-            Ok((keys, values))
-        }
-        Err(place) => {
-            keys.insert(place, key)?;
-            values.insert(place, value)?;
-            Ok((keys, values))
-        }
+    match heap.entries(map) {
+        Some(entries) => Ok(PureAnswer::Value(heap.put_each(entries, &[(key, value)])?)),
+        None => badmap(heap, map),
     }
 }
 
 /// `maps:update/3`: the map with this value at the key, which it has.
 pub(crate) fn update(
-    alloc: Global,
     heap: &mut Heap,
     key: TermId,
     value: TermId,
@@ -89,8 +53,8 @@ pub(crate) fn update(
     ensures keeps { Keeps heap.old heap.new }
     ensures answer { IfOk result (λ a. Gives heap.new a (spec.maps_update (term_of heap.old key) (term_of heap.old value) (term_of heap.old map))) }
 {
-    match look_up(alloc, heap, key, map)? {
-        Lookup::Value(_) => put(alloc, heap, key, value, map),
+    match look_up(heap, key, map)? {
+        Lookup::Value(_) => put(heap, key, value, map),
         Lookup::NoKey => badkey(heap, key),
         Lookup::NoMap => badmap(heap, map),
     }
@@ -98,7 +62,6 @@ pub(crate) fn update(
 
 /// `maps:remove/2`: the map without the key.
 pub(crate) fn remove(
-    alloc: Global,
     heap: &mut Heap,
     key: TermId,
     map: TermId,
@@ -108,46 +71,13 @@ pub(crate) fn remove(
     ensures keeps { Keeps heap.old heap.new }
     ensures answer { IfOk result (λ a. Gives heap.new a (spec.maps_remove (term_of heap.old key) (term_of heap.old map))) }
 {
-    let Some((keys, values)) = map_parts(heap, map) else {
+    let Some(entries) = heap.entries(map) else {
         return badmap(heap, map);
     };
-    match without_key(alloc, heap, keys, values, key)? {
-        Some((keys, values)) => Ok(PureAnswer::Value(heap.rising_map(&keys, &values)?)),
+    match heap.remove(entries, key)? {
+        Some(id) => Ok(PureAnswer::Value(id)),
         None => Ok(value(heap, map)),
     }
-}
-
-/// The keys and values without the key and its value; None where it is not among them.
-fn without_key(
-    alloc: Global,
-    heap: &Heap,
-    keys: &[TermId],
-    values: &[TermId],
-    key: TermId,
-) -> Result<Option<(Vec<TermId>, Vec<TermId>)>, AllocError>
-    requires map { HasPairs heap.now (pairs (terms_at heap.now keys.now) (terms_at heap.now values.now)) keys.now values.now }
-    requires key { Holds heap.now key }
-    ensures found { IfOk result (λ found. IfSome found (λ new. HasPairs heap.now (spec.remove (term_of heap.now key) (pairs (terms_at heap.now keys.now) (terms_at heap.now values.now))) new.0.items new.1.items)) }
-    ensures absent { IfOk result (λ found. IfNone found (spec.remove (term_of heap.now key) (pairs (terms_at heap.now keys.now) (terms_at heap.now values.now)) ≡ pairs (terms_at heap.now keys.now) (terms_at heap.now values.now))) }
-{
-    match place_of(alloc, heap, keys, key)? {
-        Ok(place) => {
-            let keys = without(alloc, keys, place)?;
-            let values = without(alloc, values, place)?;
-            Ok(Some((keys, values)))
-        }
-        Err(_) => Ok(None),
-    }
-}
-
-/// These ids without the one at a place.
-fn without(alloc: Global, ids: &[TermId], place: usize) -> Result<Vec<TermId>, AllocError>
-    requires { place < length ids.now }
-    ensures { IfOk result (λ new. new.items ≡ remove ids.now place) }
-{
-    let mut ids = Vec::from_slice(alloc, ids)?;
-    ids.remove(place);
-    Ok(ids)
 }
 
 /// `maps:from_list/1`: the map of the tuples `{K,V}` of a proper list, of equal keys the later.
@@ -218,7 +148,6 @@ fn pair(ids: &[TermId]) -> Option<Entry>
 
 /// `maps:merge/2`: both maps' keys, with the values of the second where both have a key.
 pub(crate) fn merge(
-    alloc: Global,
     heap: &mut Heap,
     first: TermId,
     second: TermId,
@@ -228,45 +157,11 @@ pub(crate) fn merge(
     ensures keeps { Keeps heap.old heap.new }
     ensures answer { IfOk result (λ a. Gives heap.new a (spec.maps_merge (term_of heap.old first) (term_of heap.old second))) }
 {
-    let Some((keys, values)) = map_parts(heap, first) else {
+    let Some(firsts) = heap.entries(first) else {
         return badmap(heap, first);
     };
-    let Some((other_keys, other_values)) = map_parts(heap, second) else {
+    let Some(seconds) = heap.entries(second) else {
         return badmap(heap, second);
     };
-    let mut entries = Vec::new(alloc);
-    push_entries(heap, &mut entries, keys, values)?;
-    push_entries(heap, &mut entries, other_keys, other_values)?;
-    Ok(PureAnswer::Value(heap.map(&entries)?))
-}
-
-/// Appends each key of a map with its value.
-fn push_entries(
-    heap: &Heap,
-    entries: &mut Vec<Entry>,
-    keys: &[TermId],
-    values: &[TermId],
-) -> Result<(), AllocError>
-    requires entries { HoldsEntries heap.now entries.old.items }
-    requires map { HasPairs heap.now (pairs (terms_at heap.now keys.now) (terms_at heap.now values.now)) keys.now values.now }
-    ensures held { OnOk result (HoldsEntries heap.now entries.new.items) }
-    ensures entries { OnOk result (entries_at heap.now entries.new.items ≡ entries_at heap.now entries.old.items ++ spec.entries (pairs (terms_at heap.now keys.now) (terms_at heap.now values.now))) }
-{
-    push_each(entries, keys, values)?;
-    Ok(())
-}
-
-/// Appends each of the first with that of the second at its place.
-fn push_each(
-    entries: &mut Vec<Entry>,
-    firsts: &[TermId],
-    seconds: &[TermId],
-) -> Result<(), AllocError>
-    requires { length firsts.now ≡ length seconds.now }
-    ensures { OnOk result (entries.new.items ≡ entries.old.items ++ zip firsts.now seconds.now) }
-{
-    for place in 0..firsts.len() {
-        entries.push((firsts[place], seconds[place]))?;
-    }
-    Ok(())
+    Ok(PureAnswer::Value(heap.merge(firsts, seconds)?))
 }

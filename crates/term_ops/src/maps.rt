@@ -1,16 +1,18 @@
 //! Builtin functions that read maps (the OTP modules erlang and maps).
 
-ghost use Rattle.std.specs.Prelude.{◌≡◌, length, Some, None, IfOk};
+ghost use Rattle.std.specs.Prelude.{◌≡◌, map, Some, None, IfOk};
+ghost use Rattle.term_heap.specs.declared.cell.TermId.{TermId};
 ghost use Rattle.ej_term.specs.Maps as spec;
 ghost use Rattle.ej_term.specs.Maps.{entry_tuples};
-ghost use Rattle.term_heap.specs.Cells.{pairs};
+ghost use Rattle.term_heap.specs.Cells.{from_entries};
+ghost use Rattle.term_heap.specs.Entries.{HoldsEntries, entries_at};
 ghost use Rattle.term_heap.specs.View.{Holds, Stands, term_of, Keeps};
 ghost use Rattle.term_heap.specs.Held.{HoldsEach, terms_at};
 ghost use Rattle.term_ops.specs.Answers.{Gives};
 
 use crate::answer::PureAnswer;
 use crate::elements::list;
-use crate::map_parts::{Lookup, look_up, map_parts};
+use crate::lookup::{Lookup, look_up};
 use crate::raise::{boolean, error_with, value};
 use std::alloc::{AllocError, Global};
 use term_heap::{Heap, TermId};
@@ -36,15 +38,15 @@ pub(crate) fn badkey(heap: &mut Heap, key: TermId) -> Result<PureAnswer, AllocEr
 }
 
 /// `map_size/1`: the count of a map's keys.
-#[tactic(auto, using(crate::proofs::MapsLookup::size_of_parts))]
+#[tactic(auto, using(crate::proofs::MapsLookup::size_of_entries))]
 pub(crate) fn map_size(heap: &mut Heap, map: TermId) -> Result<PureAnswer, AllocError>
     requires { Holds heap.old map }
     ensures keeps { Keeps heap.old heap.new }
     ensures answer { IfOk result (λ a. Gives heap.new a (spec.map_size (term_of heap.old map))) }
 {
-    match map_parts(heap, map) {
-        Some((keys, _)) => {
-            let count = keys.len() as i64;
+    match heap.entries(map) {
+        Some(entries) => {
+            let count = heap.entry_count(entries) as i64;
             Ok(PureAnswer::Value(heap.int(count)?))
         }
         None => badmap(heap, map),
@@ -54,7 +56,6 @@ pub(crate) fn map_size(heap: &mut Heap, map: TermId) -> Result<PureAnswer, Alloc
 /// `map_get/2` and `maps:get/2`: the value at a key.
 #[tactic(auto, using(crate::proofs::MapsLookup::map_get_is))]
 pub(crate) fn map_get(
-    alloc: Global,
     heap: &mut Heap,
     key: TermId,
     map: TermId,
@@ -64,7 +65,7 @@ pub(crate) fn map_get(
     ensures keeps { Keeps heap.old heap.new }
     ensures answer { IfOk result (λ a. Gives heap.new a (spec.map_get (term_of heap.old key) (term_of heap.old map))) }
 {
-    match look_up(alloc, heap, key, map)? {
+    match look_up(heap, key, map)? {
         Lookup::Value(id) => Ok(value(heap, id)),
         Lookup::NoKey => badkey(heap, key),
         Lookup::NoMap => badmap(heap, map),
@@ -74,7 +75,6 @@ pub(crate) fn map_get(
 /// `is_map_key/2` and `maps:is_key/2`: whether a map has a key.
 #[tactic(auto, using(crate::proofs::MapsLookup::is_map_key_is))]
 pub(crate) fn is_map_key(
-    alloc: Global,
     heap: &mut Heap,
     key: TermId,
     map: TermId,
@@ -84,7 +84,7 @@ pub(crate) fn is_map_key(
     ensures keeps { Keeps heap.old heap.new }
     ensures answer { IfOk result (λ a. Gives heap.new a (spec.is_map_key (term_of heap.old key) (term_of heap.old map))) }
 {
-    match look_up(alloc, heap, key, map)? {
+    match look_up(heap, key, map)? {
         Lookup::Value(_) => boolean(heap, true),
         Lookup::NoKey => boolean(heap, false),
         Lookup::NoMap => badmap(heap, map),
@@ -94,7 +94,6 @@ pub(crate) fn is_map_key(
 /// `maps:find/2`: `{ok,V}` with the value at a key, or `error`.
 #[tactic(auto, using(crate::proofs::MapsLookup::maps_find_is))]
 pub(crate) fn find(
-    alloc: Global,
     heap: &mut Heap,
     key: TermId,
     map: TermId,
@@ -104,7 +103,7 @@ pub(crate) fn find(
     ensures keeps { Keeps heap.old heap.new }
     ensures answer { IfOk result (λ a. Gives heap.new a (spec.maps_find (term_of heap.old key) (term_of heap.old map))) }
 {
-    match look_up(alloc, heap, key, map)? {
+    match look_up(heap, key, map)? {
         Lookup::Value(id) => Ok(PureAnswer::Value(found(heap, id)?)),
         Lookup::NoKey => Ok(PureAnswer::Value(not_found(heap)?)),
         Lookup::NoMap => badmap(heap, map),
@@ -137,13 +136,23 @@ pub(crate) fn keys(alloc: Global, heap: &mut Heap, map: TermId) -> Result<PureAn
     ensures keeps { Keeps heap.old heap.new }
     ensures answer { IfOk result (λ a. Gives heap.new a (spec.maps_keys (term_of heap.old map))) }
 {
-    match map_parts(heap, map) {
-        Some((keys, _)) => {
-            let keys = Vec::from_slice(alloc, keys)?;
-            Ok(PureAnswer::Value(list(heap, &keys)?))
-        }
-        None => badmap(heap, map),
+    let Some(entries) = heap.entries(map) else {
+        return badmap(heap, map);
+    };
+    let entries = heap.entry_list(alloc, entries)?;
+    let keys = keys_of(alloc, &entries)?;
+    Ok(PureAnswer::Value(list(heap, &keys)?))
+}
+
+/// The keys of entries.
+fn keys_of(alloc: Global, entries: &[(TermId, TermId)]) -> Result<Vec<TermId>, AllocError>
+    ensures { IfOk result (λ keys. keys.items ≡ map (λ (e : TermId × TermId). e.0) entries.now) }
+{
+    let mut keys = Vec::new(alloc);
+    for (key, _) in entries {
+        keys.push(*key)?;
     }
+    Ok(keys)
 }
 
 /// `maps:values/1`: the list of a map's values, in the order of their keys.
@@ -152,13 +161,23 @@ pub(crate) fn values(alloc: Global, heap: &mut Heap, map: TermId) -> Result<Pure
     ensures keeps { Keeps heap.old heap.new }
     ensures answer { IfOk result (λ a. Gives heap.new a (spec.maps_values (term_of heap.old map))) }
 {
-    match map_parts(heap, map) {
-        Some((_, values)) => {
-            let values = Vec::from_slice(alloc, values)?;
-            Ok(PureAnswer::Value(list(heap, &values)?))
-        }
-        None => badmap(heap, map),
+    let Some(entries) = heap.entries(map) else {
+        return badmap(heap, map);
+    };
+    let entries = heap.entry_list(alloc, entries)?;
+    let values = values_of(alloc, &entries)?;
+    Ok(PureAnswer::Value(list(heap, &values)?))
+}
+
+/// The values of entries.
+fn values_of(alloc: Global, entries: &[(TermId, TermId)]) -> Result<Vec<TermId>, AllocError>
+    ensures { IfOk result (λ values. values.items ≡ map (λ (e : TermId × TermId). e.1) entries.now) }
+{
+    let mut values = Vec::new(alloc);
+    for (_, value) in entries {
+        values.push(*value)?;
     }
+    Ok(values)
 }
 
 /// `maps:to_list/1`: the list of a map's keys with their values as tuples `{K,V}`, in the order of the keys.
@@ -167,34 +186,28 @@ pub(crate) fn to_list(alloc: Global, heap: &mut Heap, map: TermId) -> Result<Pur
     ensures keeps { Keeps heap.old heap.new }
     ensures answer { IfOk result (λ a. Gives heap.new a (spec.maps_to_list (term_of heap.old map))) }
 {
-    match map_parts(heap, map) {
-        Some((keys, values)) => {
-            let keys = Vec::from_slice(alloc, keys)?;
-            let values = Vec::from_slice(alloc, values)?;
-            let tuples = tuples(alloc, heap, &keys, &values)?;
-            Ok(PureAnswer::Value(list(heap, &tuples)?))
-        }
-        None => badmap(heap, map),
-    }
+    let Some(entries) = heap.entries(map) else {
+        return badmap(heap, map);
+    };
+    let entries = heap.entry_list(alloc, entries)?;
+    let tuples = tuples(alloc, heap, &entries)?;
+    Ok(PureAnswer::Value(list(heap, &tuples)?))
 }
 
 /// The tuple `{K,V}` of each key and its value.
 fn tuples(
     alloc: Global,
     heap: &mut Heap,
-    keys: &[TermId],
-    values: &[TermId],
+    entries: &[(TermId, TermId)],
 ) -> Result<Vec<TermId>, AllocError>
-    requires keys { HoldsEach heap.old keys.now }
-    requires values { HoldsEach heap.old values.now }
-    requires count { length keys.now ≡ length values.now }
+    requires { HoldsEntries heap.old entries.now }
     ensures keeps { Keeps heap.old heap.new }
     ensures held { IfOk result (λ tuples. HoldsEach heap.new tuples.items) }
-    ensures tuples { IfOk result (λ tuples. terms_at heap.new tuples.items ≡ entry_tuples (pairs (terms_at heap.old keys.now) (terms_at heap.old values.now))) }
+    ensures tuples { IfOk result (λ tuples. terms_at heap.new tuples.items ≡ entry_tuples (from_entries (entries_at heap.old entries.now))) }
 {
     let mut tuples = Vec::new(alloc);
-    for place in 0..keys.len() {
-        let tuple = heap.tuple(&[keys[place], values[place]])?;
+    for (key, value) in entries {
+        let tuple = heap.tuple(&[*key, *value])?;
         tuples.push(tuple)?;
     }
     Ok(tuples)

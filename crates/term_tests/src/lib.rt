@@ -6,6 +6,8 @@
 #[cfg(test)]
 mod cases;
 #[cfg(test)]
+mod changed_maps;
+#[cfg(test)]
 mod forests;
 #[cfg(test)]
 mod heaps;

@@ -8,7 +8,7 @@ use Rattle.term_ops.specs.Parts.{tuple_elements}
 use Rattle.term_ops.proofs.ReadTuples.{AreParts, tuple-parts, items-terms}
 use Rattle.term_ops.proofs.read.tuple.Goals as goal
 
-opened : (c : goal.In-Tuple) → (xs : List Term) × (term_of c.args.heap.now c.args.id ≡ Tuple (terms xs)) × AreParts (parts_in c.args.heap.now) (terms_in c.args.heap.now) c.in-Tuple.first c.in-Tuple.count xs
+opened : (c : goal.In-Tuple) → (xs : List Term) × (term_of c.args.heap.now c.args.id ≡ Tuple (terms xs)) × AreParts (parts_in c.args.heap.now).ids (terms_in c.args.heap.now) c.in-Tuple.first c.in-Tuple.count xs
 opened c = tuple-parts (texts_in c.args.heap.now) (parts_in c.args.heap.now) (terms_in c.args.heap.now) c.in-Tuple.first c.in-Tuple.count (term_of c.args.heap.now c.args.id)
     (ap (cell_term c.args.heap.now) (sym c.in-Tuple.is) ∙ c.cell.ensures.term)
 

@@ -4,18 +4,19 @@ use Rattle.term_text.specs.declared.work.Work.{Work}
 use Rattle.term_text.specs.declared.work.Work.TheVariants as w
 use Rattle.term_text.specs.Printing.{IsWork}
 use Rattle.term_text.proofs.Steps.{stepped-is, stepped-term, stepped-tail, stepped-parts, stepped-rest, stepped-entries, stepped-more}
+use Rattle.term_heap.proofs.HeapBounds.{heap-few}
 use Rattle.term_text.proofs.printer.step.Goals as goal
 
 pub returns-in-Term : goal.returns-in-Term
 returns-in-Term c =
     stepped-is (parts_in c.args.heap.now) (terms_in c.args.heap.now) c.args.work (w.Term c.in-Term.id) c.write_cell.result (string_bytes c.args.out.now) (string_bytes c.write_cell.new.out) c.args.pending.now.items c.write_cell.new.pending.items c.in-Term.is
-    (stepped-term (texts_in c.args.heap.now) (parts_in c.args.heap.now) (terms_in c.args.heap.now) c.in-Term.id c.cell.result.now c.write_cell.result _ _ _ _ c.cell.ensures.term c.write_cell.ensures.text c.write_cell.ensures.works)
+    (stepped-term (texts_in c.args.heap.now) (parts_in c.args.heap.now) (heap-few c.args.heap.now) (terms_in c.args.heap.now) c.in-Term.id c.cell.result.now c.write_cell.result _ _ _ _ c.cell.ensures.term c.write_cell.ensures.text c.write_cell.ensures.works)
 
 pub returns-in-Tail : goal.returns-in-Tail
 returns-in-Tail c =
     let is : IsWork (parts_in c.args.heap.now) (terms_in c.args.heap.now) (w.Tail c.in-Tail.id) = subst (λ (k : Work). IsWork (parts_in c.args.heap.now) (terms_in c.args.heap.now) k) c.in-Tail.is c.requires in
     stepped-is (parts_in c.args.heap.now) (terms_in c.args.heap.now) c.args.work (w.Tail c.in-Tail.id) c.write_tail.result (string_bytes c.args.out.now) (string_bytes c.write_tail.new.out) c.args.pending.now.items c.write_tail.new.pending.items c.in-Tail.is
-    (stepped-tail (texts_in c.args.heap.now) (parts_in c.args.heap.now) (terms_in c.args.heap.now) c.in-Tail.id c.cell-in-Tail.result.now c.write_tail.result _ _ _ _ is c.cell-in-Tail.ensures.term c.write_tail.ensures.text c.write_tail.ensures.works)
+    (stepped-tail (texts_in c.args.heap.now) (parts_in c.args.heap.now) (heap-few c.args.heap.now) (terms_in c.args.heap.now) c.in-Tail.id c.cell-in-Tail.result.now c.write_tail.result _ _ _ _ is c.cell-in-Tail.ensures.term c.write_tail.ensures.text c.write_tail.ensures.works)
 
 pub returns-in-Parts : goal.returns-in-Parts
 returns-in-Parts c =

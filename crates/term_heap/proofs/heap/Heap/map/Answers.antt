@@ -1,20 +1,18 @@
-use Rattle.std.proofs.Common.{List, ◌++◌, map, is_some, ap, ◌∙◌, rules}
+use Rattle.std.proofs.Common.{ap, subst, ◌∙◌}
+use Rattle.std.specs.Prelude.{IfOk}
 use Rattle.ej_term.specs.Term as term
-use Rattle.ej_term.specs.Maps.{put_each}
-use Rattle.term_heap.specs.View.{terms_in, parts_in}
-use Rattle.term_heap.proofs.Made.{made}
-use Rattle.term_heap.proofs.Mapped.{Ids, keys_of, values_of, entry_in, map-made}
+use Rattle.ej_term.specs.Term.{Pairs}
+use Rattle.term_heap.specs.Cells.{from_entries}
+use Rattle.term_heap.specs.Entries.{entries_at}
+use Rattle.term_heap.specs.View.{Stands}
+use Rattle.term_heap.proofs.Putting.{rising-is}
+use Rattle.term_heap.proofs.MapTrees.{tree-made, entries-made}
 use Rattle.term_heap.proofs.heap.Heap.map.Goals as goal
 
-pub push-requires : goal.push-requires
-push-requires c = ap is_some (map-made (parts_in c.push_parts.new.self) (terms_in c.args.self.now) (terms_in c.push_parts.new.self) c.in_ok-first.first c.len.result c.in_ok-entries.entries.items c.args.pairs.now c.deref-2.result.now
-    c.push_parts.ensures.terms
-    (c.deref-2.ensures.value ∙ c.in_ok-parts.ensures ∙ ap (λ (es : List Ids). keys_of es ++ values_of es) c.deref.ensures.value)
-    (search rules) c.in_ok-first.ensures.parts c.in_ok-entries.ensures.held c.in_ok-entries.ensures.map)
+pub map_of-requires : goal.map_of-requires
+map_of-requires c = tree-made c.args.self.now c.collect.new.self c.in_ok-tree.tree c.in_ok-entries.entries.items c.collect.ensures.terms c.in_ok-tree.ensures.held (c.in_ok-tree.ensures.list ∙ c.deref.ensures.value) c.in_ok-entries.ensures.held
+    (rising-is (entries_at c.args.self.now c.in_ok-entries.entries.items) (entries_at c.args.self.now c.args.pairs.now) c.in_ok-entries.ensures.map)
 
 pub returns-clause-term : goal.returns-clause-term
-returns-clause-term c = made c.push.result (terms_in c.push.new.self) _ (term.Map (put_each term.Empty (map (entry_in (terms_in c.args.self.now)) c.args.pairs.now))) c.push.ensures.term
-    (map-made (parts_in c.push_parts.new.self) (terms_in c.args.self.now) (terms_in c.push_parts.new.self) c.in_ok-first.first c.len.result c.in_ok-entries.entries.items c.args.pairs.now c.deref-2.result.now
-    c.push_parts.ensures.terms
-    (c.deref-2.ensures.value ∙ c.in_ok-parts.ensures ∙ ap (λ (es : List Ids). keys_of es ++ values_of es) c.deref.ensures.value)
-    (search rules) c.in_ok-first.ensures.parts c.in_ok-entries.ensures.held c.in_ok-entries.ensures.map)
+returns-clause-term c = subst (λ (ps : Pairs). IfOk c.map_of.result (λ id. Stands c.map_of.new.self id (term.Map ps)))
+    (ap from_entries (entries-made c.args.self.now c.collect.new.self c.in_ok-tree.tree c.in_ok-entries.entries.items c.collect.ensures.terms (c.in_ok-tree.ensures.list ∙ c.deref.ensures.value)) ∙ c.in_ok-entries.ensures.map) c.map_of.ensures.term

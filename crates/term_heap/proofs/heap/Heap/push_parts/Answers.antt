@@ -1,27 +1,25 @@
 use Rattle.std.proofs.Common.{is_ok}
-use Rattle.term_heap.proofs.Adding.{grown, grown-seen, extends-itself, extends-if, extends-same}
+use Rattle.term_heap.proofs.Adding.{grown, grown-seen, extends-itself, extends-same, more-ids}
+use Rattle.term_heap.specs.Cells.{stored}
+use Rattle.forest.specs.View.{lists_in}
 use Rattle.term_heap.specs.Once.{once_of, atom_of}
-use Rattle.term_heap.specs.View.{terms_in}
+use Rattle.term_heap.specs.View.{terms_in, parts_in}
 use Rattle.term_heap.proofs.Sharing.{kept-still}
 use Rattle.term_heap.proofs.heap.Heap.push_parts.Goals as goal
 
 pub invariant_of-self : goal.invariant_of-self
 invariant_of-self c = record {
-  meant = grown c.args.self.now.atoms.keys c.args.self.now.atoms.keys c.args.self.now.parts.items c.extend_from_slice.new.self.items c.args.self.now.cells.items
-      (extends-itself c.args.self.now.atoms.keys) (extends-if (is_ok c.extend_from_slice.result) c.args.self.now.parts.items c.args.ids.now c.extend_from_slice.new.self.items c.extend_from_slice.ensures.items) c.args.self.now.meant;
-  once_stand = kept-still once_of (terms_in c.args.self.now) _ c.args.self.now.once.ids.items (extends-same _ _ (grown-seen c.args.self.now.atoms.keys c.args.self.now.atoms.keys c.args.self.now.parts.items c.extend_from_slice.new.self.items c.args.self.now.cells.items
-      (extends-itself c.args.self.now.atoms.keys) (extends-if (is_ok c.extend_from_slice.result) c.args.self.now.parts.items c.args.ids.now c.extend_from_slice.new.self.items c.extend_from_slice.ensures.items) c.args.self.now.meant)) c.args.self.now.once_stand;
-  named_stand = kept-still (atom_of c.args.self.now.atoms.keys) (terms_in c.args.self.now) _ c.args.self.now.named.ids.items (extends-same _ _ (grown-seen c.args.self.now.atoms.keys c.args.self.now.atoms.keys c.args.self.now.parts.items c.extend_from_slice.new.self.items c.args.self.now.cells.items
-      (extends-itself c.args.self.now.atoms.keys) (extends-if (is_ok c.extend_from_slice.result) c.args.self.now.parts.items c.args.ids.now c.extend_from_slice.new.self.items c.extend_from_slice.ensures.items) c.args.self.now.meant)) c.args.self.now.named_stand;
+  meant = grown c.args.self.now.atoms.keys c.args.self.now.atoms.keys (parts_in c.args.self.now) (stored c.extend_from_slice.new.self.items (lists_in c.args.self.now.maps)) c.args.self.now.cells.items (extends-itself c.args.self.now.atoms.keys) (more-ids (is_ok c.extend_from_slice.result) c.args.self.now.parts.items c.args.ids.now c.extend_from_slice.new.self.items (lists_in c.args.self.now.maps) c.extend_from_slice.ensures.items) c.args.self.now.meant;
+  once_stand = kept-still once_of (terms_in c.args.self.now) _ c.args.self.now.once.ids.items (extends-same _ _ (grown-seen c.args.self.now.atoms.keys c.args.self.now.atoms.keys (parts_in c.args.self.now) (stored c.extend_from_slice.new.self.items (lists_in c.args.self.now.maps)) c.args.self.now.cells.items (extends-itself c.args.self.now.atoms.keys) (more-ids (is_ok c.extend_from_slice.result) c.args.self.now.parts.items c.args.ids.now c.extend_from_slice.new.self.items (lists_in c.args.self.now.maps) c.extend_from_slice.ensures.items) c.args.self.now.meant)) c.args.self.now.once_stand;
+  named_stand = kept-still (atom_of c.args.self.now.atoms.keys) (terms_in c.args.self.now) _ c.args.self.now.named.ids.items (extends-same _ _ (grown-seen c.args.self.now.atoms.keys c.args.self.now.atoms.keys (parts_in c.args.self.now) (stored c.extend_from_slice.new.self.items (lists_in c.args.self.now.maps)) c.args.self.now.cells.items (extends-itself c.args.self.now.atoms.keys) (more-ids (is_ok c.extend_from_slice.result) c.args.self.now.parts.items c.args.ids.now c.extend_from_slice.new.self.items (lists_in c.args.self.now.maps) c.extend_from_slice.ensures.items) c.args.self.now.meant)) c.args.self.now.named_stand;
 }
 
 pub returns-clause-terms : goal.returns-clause-terms
-returns-clause-terms c = grown-seen c.args.self.now.atoms.keys c.args.self.now.atoms.keys c.args.self.now.parts.items c.extend_from_slice.new.self.items c.args.self.now.cells.items
-    (extends-itself c.args.self.now.atoms.keys) (extends-if (is_ok c.extend_from_slice.result) c.args.self.now.parts.items c.args.ids.now c.extend_from_slice.new.self.items c.extend_from_slice.ensures.items) c.args.self.now.meant
+returns-clause-terms c = grown-seen c.args.self.now.atoms.keys c.args.self.now.atoms.keys (parts_in c.args.self.now) (stored c.extend_from_slice.new.self.items (lists_in c.args.self.now.maps)) c.args.self.now.cells.items (extends-itself c.args.self.now.atoms.keys) (more-ids (is_ok c.extend_from_slice.result) c.args.self.now.parts.items c.args.ids.now c.extend_from_slice.new.self.items (lists_in c.args.self.now.maps) c.extend_from_slice.ensures.items) c.args.self.now.meant
 
 pub returns-clause-keeps : goal.returns-clause-keeps
 returns-clause-keeps c = record {
   terms = extends-same _ _ (returns-clause-terms c);
-  parts = extends-if (is_ok c.extend_from_slice.result) c.args.self.now.parts.items c.args.ids.now c.extend_from_slice.new.self.items c.extend_from_slice.ensures.items;
+  parts = more-ids (is_ok c.extend_from_slice.result) c.args.self.now.parts.items c.args.ids.now c.extend_from_slice.new.self.items (lists_in c.args.self.now.maps) c.extend_from_slice.ensures.items;
   texts = extends-itself c.args.self.now.atoms.keys;
 }
