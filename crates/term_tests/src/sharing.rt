@@ -75,18 +75,29 @@ fn doubled(heap: &mut Heap, times: u32) -> Result<TermId, AllocError>
     heap.tuple(&[part, part])
 }
 
+/// The tuple of these two.
+#[tactic(auto, using(crate::proofs::HeldEach::kept))]
+fn beside(heap: &mut Heap, first: TermId, second: TermId) -> Result<TermId, AllocError>
+    requires first { Holds heap.old first }
+    requires second { Holds heap.old second }
+    ensures keeps { Keeps heap.old heap.new }
+    ensures held { IfOk result (λ id. Holds heap.new id) }
+{
+    heap.tuple(&[first, second])
+}
+
 // 2^60 empty lists are told equal by their ids
 #[test]
-#[tactic(auto, using(crate::proofs::HeldEach::kept))]
+#[tactic(auto, using(crate::proofs::HeldEach::kept, crate::proofs::HeldEach::kept_twice))]
 fn shared_parts_are_equal_at_once(rt: HostRuntime) -> Result<(), Fail> {
     let alloc = rt.alloc();
     let mut heap = Heap::new(alloc);
     let shared = doubled(&mut heap, 60)?;
     let one = heap.int(1)?;
     let two = heap.int(2)?;
-    let first = heap.tuple(&[shared, one])?;
-    let second = heap.tuple(&[shared, two])?;
-    let again = heap.tuple(&[shared, one])?;
+    let first = beside(&mut heap, shared, one)?;
+    let second = beside(&mut heap, shared, two)?;
+    let again = beside(&mut heap, shared, one)?;
     assert!(rt; compare(alloc, &heap, first, second)? == Ordering::Less);
     assert!(rt; compare(alloc, &heap, first, again)? == Ordering::Equal);
     assert!(rt; compare(alloc, &heap, second, first)? == Ordering::Greater);
