@@ -6,3 +6,4 @@ pub mod Entries
 pub mod Loaded
 pub mod Once
 pub mod Made
+pub mod Preorder

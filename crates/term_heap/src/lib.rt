@@ -12,6 +12,7 @@ mod load;
 mod makers;
 mod once;
 mod order;
+mod preorder;
 mod sort;
 mod texts;
 mod work;
