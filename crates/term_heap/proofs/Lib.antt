@@ -10,5 +10,7 @@ pub mod Merging
 pub mod Mapped
 pub mod Kept
 pub mod Sharing
+pub mod Layers
+pub mod Stacking
 pub mod Loading
 pub mod Distinct

@@ -1,5 +1,5 @@
 -- A source's term as a list of the terms in it, and what such a list makes of a stack of terms, from its end to its front.
-use Rattle.std.specs.Prelude.{◌≡◌, ℕ, suc, ◌-◌, true, false, List, [], ◌∷◌, ◌++◌, length, map, take, drop, sum, nat_le, if◌then◌else◌, Option, Some, option_map, option_and_then, Result, Ok, Err}
+use Rattle.std.specs.Prelude.{◌≡◌, ℕ, ◌+◌, ◌-◌, true, false, List, [], ◌∷◌, ◌++◌, length, map, take, drop, nat_le, if◌then◌else◌, Option, Some, option_map, option_and_then, Result, Ok, Err}
 use Rattle.std.specs.Prelude as std
 use Rattle.ej_term.specs.declared.asm_term.AsmTerm.{AsmTerm, fold-AsmTerm, out-AsmTerm}
 use Rattle.ej_term.specs.declared.asm_term.AsmTerm.TheOpen as o
@@ -65,9 +65,13 @@ abbrev pub evaluated : List AsmTerm → List Term → Option (List Term)
 evaluated [] stack = Some stack
 evaluated (t ∷ rest) stack = option_and_then (applied t) (evaluated rest stack)
 
+abbrev pub total : List ℕ → ℕ
+total [] = 0
+total (n ∷ ns) = n + total ns
+
 -- how many terms are in a term, itself among them
 abbrev pub count_step : AsmTerm-F ℕ → ℕ
-count_step layer = suc (sum (parts_of_layer layer))
+count_step layer = 1 + total (parts_of_layer layer)
 
 abbrev pub count : AsmTerm → ℕ
 count = fold-AsmTerm ℕ count_step

@@ -32,6 +32,7 @@ pub(crate) fn preorder<'a>(alloc: Global, t: &'a AsmTerm) -> Result<Vec<&'a AsmT
 ///
 /// # Errors
 /// `Opaque` where it is an opaque token.
+#[tactic(auto, using(crate::proofs::Layers::inner_cases, crate::proofs::Layers::opaque_parts))]
 fn push_inner<'a>(pending: &mut Vec<&'a AsmTerm>, term: &'a AsmTerm) -> Result<(), LoadFault>
     ensures parts { OnOk result (map (λ x. x.now) pending.new.items ≡ map (λ x. x.now) pending.old.items ++ inner term.now) }
     ensures plain { OnOk result (has_opaque term.now ≡ list_any has_opaque (inner term.now)) }
@@ -77,8 +78,8 @@ fn push_pairs<'a>(
     ensures { OnOk result (map (λ x. x.now) pending.new.items ≡ map (λ x. x.now) pending.old.items ++ flat pairs.now) }
 {
     for (key, value) in pairs {
-        pending.push(key)?;
-        pending.push(value)?;
+        push_term(pending, key)?;
+        push_term(pending, value)?;
     }
     Ok(())
 }

@@ -7,7 +7,7 @@ use std::test::Fail;
 use term_heap::{Heap, LoadFault};
 
 /// How deep the terms are nested.
-const DEPTH: usize = 4_000;
+const DEPTH: usize = 1_000;
 
 // `{[#{1=>..}|2]}`, with the last of these in place of the dots, and so on
 fn nested(alloc: Global, last: AsmTerm) -> Result<AsmTerm, AllocError> {
