@@ -12,5 +12,6 @@ pub mod Kept
 pub mod Sharing
 pub mod Layers
 pub mod Stacking
+pub mod Rebuilding
 pub mod Loading
 pub mod Distinct

@@ -106,19 +106,21 @@ fn add_behind(heap: &mut Heap, ids: &mut Vec<TermId>, t: &AsmTerm) -> Result<(),
 }
 
 /// How many parts a term has.
+#[tactic(auto, using(crate::proofs::Layers::inner_cases))]
 fn count_inner(t: &AsmTerm) -> usize
     ensures { result ≡ length (inner t.now) }
 {
     match t {
-        AsmTerm::List(parts, None) => parts.len(),
-        AsmTerm::List(parts, Some(_)) => parts.len() + 1,
-        AsmTerm::Tuple(parts) => parts.len(),
-        AsmTerm::Map(pairs) => 2 * pairs.len(),
+        AsmTerm::List(parts, None) => parts.as_slice().len(),
+        AsmTerm::List(parts, Some(_)) => parts.as_slice().len() + 1,
+        AsmTerm::Tuple(parts) => parts.as_slice().len(),
+        AsmTerm::Map(pairs) => 2 * pairs.as_slice().len(),
         _ => 0,
     }
 }
 
 /// Adds a term, by the ids of its parts.
+#[tactic(auto, using(crate::proofs::Layers::made_cases))]
 fn make(heap: &mut Heap, t: &AsmTerm, parts: &[TermId]) -> Result<TermId, AllocError>
     requires held { HoldsEach heap.old parts.now }
     requires made { IsSome (made_of t.now (terms_at heap.old parts.now)) }
