@@ -1,5 +1,5 @@
 -- The parts of a source's term, and what they tell of it.
-use Rattle.std.proofs.Common.{◌≡◌, ℕ, ℤ, ◌+◌, Bool, true, false, ◌||◌, List, [], ◌∷◌, map, Option, Some, option_map, option_and_then, refl, sym, ap, ap₂, ◌∙◌}
+use Rattle.std.proofs.Common.{◌≡◌, ℕ, ℤ, ◌+◌, Bool, true, false, ◌||◌, List, [], ◌∷◌, map, Option, Some, option_map, option_and_then, refl, sym, ap, ◌∙◌}
 use Rattle.std.specs.Prelude as std
 use Rattle.std.specs.List.{list_any}
 use Rattle.std.specs.Option.{option_zip}
@@ -12,7 +12,7 @@ use Rattle.ej_term.specs.Term.{Term, Int, Atom, Reference, Fun, Pid, Map, Nil, N
 use Rattle.ej_term.specs.Digits.{string}
 use Rattle.ej_term.specs.Lists.{list_onto}
 use Rattle.ej_term.specs.Maps.{put_each}
-use Rattle.ej_term.specs.AsmValue.{every, value_step, value, has_opaque, pair_opaque, tail_opaque}
+use Rattle.ej_term.specs.AsmValue.{every, value_step, value, has_opaque, pair_opaque}
 use Rattle.ej_term.proofs.OpaqueLemmas.{opaque-Int, opaque-Atom, opaque-Str, opaque-List, opaque-Tuple, opaque-Map, opaque-ExtFun, opaque-Pid, opaque-Ref, opaque-Opaque}
 use Rattle.term_heap.specs.Preorder.{flat, paired, parts_of_layer, inner, improper, made_of_layer, made_of, total, count_step, count}
 

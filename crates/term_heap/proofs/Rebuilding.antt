@@ -1,12 +1,12 @@
 -- Adding the terms of a list from its end to its front.
-use Rattle.std.proofs.Common.{◌≡◌, ℕ, ◌+◌, ◌-◌, ◌*◌, ◌/◌, ◌<◌, ◌≤◌, nat_le, Bool, true, false, not, if◌then◌else◌, List, [], ◌∷◌, ◌++◌, length, map, take, drop, slice_get, slice_index_or, Option, Some, is_some, option_map, option_and_then, unwrap_or, refl, sym, ap, ap₂, subst, ◌∙◌, arith, true≢false}
+use Rattle.std.proofs.Common.{◌≡◌, ℕ, ◌+◌, ◌-◌, ◌*◌, ◌/◌, ◌<◌, ◌≤◌, nat_le, Bool, true, false, not, if◌then◌else◌, List, [], ◌∷◌, ◌++◌, length, take, drop, slice_get, slice_index_or, Option, Some, is_some, option_map, option_and_then, unwrap_or, refl, sym, ap, ap₂, subst, ◌∙◌, arith, true≢false}
 use Rattle.std.specs.Prelude as std
 use Rattle.std.specs.Prelude.{IsSome}
 use Rattle.std.specs.Borrow.{Bor}
 use Rattle.std.proofs.lemmas.Bool.{leb-true}
-use Rattle.std.proofs.lemmas.List.{length-append, length-map, length-drop, map-append, append_assoc, append-nil, drop_more, take-map, drop-map, take-append-drop}
+use Rattle.std.proofs.lemmas.List.{length-map, length-drop, map-append, append_assoc, append-nil, drop_more, take-map, drop-map, take-append-drop}
 use Rattle.std.proofs.lemmas.List.Elements.{All-nil, All-cons, All-append, All-take, All-drop, All-head, All-tail}
-use Rattle.std.proofs.Math.Seq.{take-append_seam, drop-append_seam}
+use Rattle.std.proofs.Math.Seq.{drop-append_seam}
 use Rattle.ej_term.specs.declared.asm_term.AsmTerm.{AsmTerm}
 use Rattle.ej_term.specs.declared.asm_term.AsmTerm.TheVariants as asm
 use Rattle.ej_term.specs.Term.{Term, Nil}
@@ -23,7 +23,7 @@ use Rattle.term_heap.proofs.Layers.{inner-Map}
 use Rattle.term_heap.specs.Preorder.{flat, paired, inner, made_of, applied, evaluated, one}
 use Rattle.term_heap.proofs.Stacking.{behind, evaluated-append}
 use Rattle.term_heap.proofs.Adding.{known, is-known}
-use Rattle.term_heap.proofs.Kept.{stands-held, stands-term, kept-each, kept-terms}
+use Rattle.term_heap.proofs.Kept.{stands-held, kept-each, kept-terms}
 
 -- a term is applied where its parts are there
 pub applied-is : (t : AsmTerm) (stack : List Term) (first : ℕ) → IsSome (applied t stack) → first ≡ length stack - length (inner t)

@@ -1,10 +1,9 @@
 -- A source's term as a list of the terms in it, and a stack that the list is worked through with from its end.
-use Rattle.std.proofs.Common.{◌≡◌, ℕ, suc, ◌+◌, ◌-◌, ◌<◌, ◌≤◌, nat_le, Bool, true, false, ◌||◌, if◌then◌else◌, List, [], ◌∷◌, ◌++◌, length, map, take, drop, Option, Some, is_some, option_map, option_and_then, refl, sym, ap, ap₂, subst, ◌∙◌, arith, true≢false}
+use Rattle.std.proofs.Common.{◌≡◌, ℕ, ◌+◌, ◌-◌, ◌<◌, nat_le, Bool, true, false, ◌||◌, if◌then◌else◌, List, [], ◌∷◌, ◌++◌, length, map, take, drop, Option, Some, option_map, option_and_then, refl, sym, ap, ap₂, ◌∙◌, arith}
 use Rattle.std.specs.Prelude as std
 use Rattle.std.specs.Prelude.{IsSome, slice_index_or}
 use Rattle.std.specs.List.{list_any}
 use Rattle.std.specs.Borrow.{Bor}
-use Rattle.std.proofs.lemmas.Option.{none-some}
 use Rattle.std.proofs.lemmas.Bool.{le-leb}
 use Rattle.std.proofs.lemmas.List.{length-append, length-map, map-append, append_assoc, take_more}
 use Rattle.std.proofs.lemmas.List.Folds.{list_any-append}
@@ -12,8 +11,7 @@ use Rattle.std.proofs.Math.Seq.{take-append_seam, drop-append_seam}
 use Rattle.ej_term.specs.declared.asm_term.AsmTerm.{AsmTerm}
 use Rattle.ej_term.specs.Term.{Term}
 use Rattle.ej_term.specs.AsmValue.{every, value, has_opaque}
-use Rattle.ej_term.proofs.Options.{unsome, chained}
-use Rattle.term_heap.specs.Preorder.{flat, inner, made_of, applied, evaluated, total, count, one}
+use Rattle.term_heap.specs.Preorder.{flat, inner, made_of, applied, evaluated, total, count}
 use Rattle.term_heap.proofs.Layers.{value-parts, count-parts}
 use Rattle.term_heap.proofs.Meanings.{length-every}
 

@@ -44,8 +44,8 @@ impl From<AllocError> for LoadFault {
 
 impl Heap {
     /// The term that a source's term stands for: a string is the list of its characters, and of a map's equal keys
-    /// the later wins. It takes memory for the count of terms in the source, and holds no stack for their depth; that
-    /// a source's term itself is copied, searched and dropped by recursion is not changed by this.
+    /// the later wins. It takes memory for the count of terms in the source, and holds no stack for their depth. (An
+    /// `AsmTerm` itself is copied and dropped by recursion.)
     ///
     /// # Errors
     /// `Opaque` exactly where an opaque token is in the term; the heap is as it was then.
@@ -135,8 +135,13 @@ fn make(heap: &mut Heap, t: &AsmTerm, parts: &[TermId]) -> Result<TermId, AllocE
         AsmTerm::List(_, Some(_)) => add_improper(heap, parts),
         AsmTerm::Tuple(_) => heap.tuple(parts),
         AsmTerm::Map(_) => add_map(heap, parts),
-        AsmTerm::ExtFun(module, name, arity) =>
-            heap.fun(false, module.as_str(), name.as_str(), *arity, &[]),
+        AsmTerm::ExtFun(module, name, arity) => heap.fun(
+            false,
+            module.as_str(),
+            name.as_str(),
+            *arity,
+            &[],
+        ),
         AsmTerm::Pid(node, number) => heap.pid(*node, *number),
         AsmTerm::Ref(node, number) => heap.reference(*node, *number),
         AsmTerm::Opaque(_) => unreachable!(),
