@@ -13,5 +13,8 @@ pub mod MapTrees
 pub mod Merging
 pub mod Kept
 pub mod Sharing
+pub mod Layers
+pub mod Stacking
+pub mod Rebuilding
 pub mod Loading
 pub mod Distinct

@@ -7,3 +7,4 @@ pub mod Loaded
 pub mod Once
 pub mod Made
 pub mod Maps
+pub mod Preorder

@@ -13,6 +13,7 @@ mod makers;
 mod maps;
 mod once;
 mod order;
+mod preorder;
 mod search;
 mod sort;
 mod texts;

@@ -14,6 +14,8 @@ mod heaps;
 #[cfg(test)]
 mod instruction_tables;
 #[cfg(test)]
+mod loads;
+#[cfg(test)]
 mod mailboxes;
 #[cfg(test)]
 mod numbers;
