@@ -11,7 +11,7 @@ use Rattle.ej_world.specs.declared.event.Event.TheVariants as event
 use Rattle.ej_world.specs.Choices.{Outcome, Runs, Waits, Ends as Ends', Turned, Code, System, Happened, view_of, depth_after, ending, turned, nothing, of_change, start, delivered, at_clock, input_to, put_in}
 use Rattle.ej_world.specs.Delivery.{is_atom, exit_message, dropped, appended, hit, exits, is_linked, without_link, to_live, to_process, with_queue, first_of, deliver}
 use Rattle.ej_world.specs.Lawful.{MayGive, MayGiveAll, next_after, live_after, States, Lawful, AreAsked}
-use Rattle.ej_world.specs.Order.{sent_by, sent, handled_by, handled, ShowsExit, Ends, Traps, Shows, Appends, Ignores, Breaks, Exits, Kills, ShowEach, InOrder}
+use Rattle.ej_world.specs.Order.{sent_by, sent, handled_by, handled, Shows, ShowEach, InOrder}
 use Rattle.ej_world.specs.Runs.{Choice, run}
 use Rattle.ej_world.specs.Sound.{Sound}
 use Rattle.ej_world.specs.Steps.{Step, Idles, Closes, Starts, Turns, Delivers as Delivers', Clocks, Inputs, Reaches, Here, Then, end_of, IsTurn}
@@ -130,7 +130,6 @@ module _ (from to : ℕ) where
     more : List (Event Term)
     events : c.events ≡ first ∷ more
     seen : Seen p q first
-    shows : Shows p q signal first
     quiet : handled from to more ≡ []
     queues : c.world.queue ≡ with_signals more queue
 
@@ -140,38 +139,35 @@ module _ (from to : ℕ) where
   pick p q signal queue false x y f g = g refl
 
   drops : (w : World) (p q : ℕ) (signal : Signal) → Delivers p q signal w.queue (dropped w p q)
-  drops w p q signal = record { first = event.Dropped p q; more = []; events = refl; seen = Lost; shows = Ignores signal; quiet = refl; queues = refl }
+  drops w p q signal = record { first = event.Dropped p q; more = []; events = refl; seen = Lost; quiet = refl; queues = refl }
 
-  ended-by : (w : World) (p q : ℕ) (x : Process) (signal : Signal) (reason : Term) → Shows p q signal (event.Hit p q reason) → Delivers p q signal w.queue (hit w p q x reason)
-  ended-by w p q x signal reason shows = record {
+  ended-by : (w : World) (p q : ℕ) (x : Process) (signal : Signal) (reason : Term) → Delivers p q signal w.queue (hit w p q x reason)
+  ended-by w p q x signal reason = record {
     first = event.Hit p q reason;
     more = end_events q reason x.links;
     events = refl;
     seen = Ended reason;
-    shows = shows;
     quiet = quiet-end q reason x.links;
     queues = refl;
   }
 
-  takes : (w : World) (p q : ℕ) (x : Process) (signal : Signal) (message : Term) → Shows p q signal (event.Deliver p q message) → Delivers p q signal w.queue (appended w p q x message)
-  takes w p q x signal message shows = record { first = event.Deliver p q message; more = []; events = refl; seen = Taken message; shows = shows; quiet = refl; queues = refl }
+  takes : (w : World) (p q : ℕ) (x : Process) (signal : Signal) (message : Term) → Delivers p q signal w.queue (appended w p q x message)
+  takes w p q x signal message = record { first = event.Deliver p q message; more = []; events = refl; seen = Taken message; quiet = refl; queues = refl }
 
   -- the rules for an exit signal, of either kind
   exit-delivers : (w : World) (p q : ℕ) (x : Process) (by_exit : Bool) (signal : Signal) (reason : Term)
-      → ((e : Event Term) → ShowsExit p q reason e → Shows p q signal e)
-      → (by_exit && is_atom (codes "kill") reason ≡ true → Shows p q signal (event.Hit p q (Atom (codes "killed"))))
       → Delivers p q signal w.queue (exits w p q x by_exit reason)
-  exit-delivers w p q x by_exit signal reason shows kills =
-      pick p q signal w.queue (by_exit && is_atom (codes "kill") reason) _ _ (λ h. ended-by w p q x signal (Atom (codes "killed")) (kills h))
-      (λ h. pick p q signal w.queue x.trapping _ _ (λ h. takes w p q x signal (exit_message w.node p reason) (shows _ (Traps w.node)))
-      (λ h. pick p q signal w.queue (is_atom (codes "normal") reason && not (nat_eq p q)) _ _ (λ h. drops w p q signal) (λ h. ended-by w p q x signal reason (shows _ Ends))))
+  exit-delivers w p q x by_exit signal reason =
+      pick p q signal w.queue (by_exit && is_atom (codes "kill") reason) _ _ (λ h. ended-by w p q x signal (Atom (codes "killed")))
+      (λ h. pick p q signal w.queue x.trapping _ _ (λ h. takes w p q x signal (exit_message w.node p reason))
+      (λ h. pick p q signal w.queue (is_atom (codes "normal") reason && not (nat_eq p q)) _ _ (λ h. drops w p q signal) (λ h. ended-by w p q x signal reason)))
 
   live-delivers : (w : World) (p q : ℕ) (x : Process) (signal : Signal) → Delivers p q signal w.queue (to_live w p q x signal)
-  live-delivers w p q x (Message message) = takes w p q x (Message message) message (Appends message)
+  live-delivers w p q x (Message message) = takes w p q x (Message message) message
   live-delivers w p q x (Link reason) = pick p q (Link reason) w.queue (is_linked x p) _ _
-      (λ h. exit-delivers (with_process w q (without_link x p)) p q (without_link x p) false (Link reason) reason (λ e s. Breaks reason e s) (λ h. absurd cc))
+      (λ h. exit-delivers (with_process w q (without_link x p)) p q (without_link x p) false (Link reason) reason)
       (λ h. drops w p q (Link reason))
-  live-delivers w p q x (Exit reason) = exit-delivers w p q x true (Exit reason) reason (λ e s. Exits reason e s) (λ h. Kills reason h)
+  live-delivers w p q x (Exit reason) = exit-delivers w p q x true (Exit reason) reason
 
   process-delivers : (w : World) (p q : ℕ) (signal : Signal) (x : Process) → Delivers p q signal w.queue (if is_live x then to_live w p q x signal else dropped w p q)
   process-delivers w p q signal x = pick p q signal w.queue (is_live x) _ _ (λ h. live-delivers w p q x signal) (λ h. drops w p q signal)
@@ -186,8 +182,8 @@ module _ (from to : ℕ) where
 
   -- the delivery of the first signal from p to q moves the queue of the pair, if that is it
   moves-delivered : (w : World) (p q : ℕ) (signal : Signal) (rest : List Signal) (c : Change) → w.queue p q ≡ signal ∷ rest → Delivers p q signal (taken p q rest w.queue) c
-      → Moves c.events (w.queue from to) (c.world.queue from to)
-  moves-delivered w p q signal rest c waits d =
+      → (u : World) (x : Process) → to_process u p q signal (Some x) ≡ Some c → Moves c.events (w.queue from to) (c.world.queue from to)
+  moves-delivered w p q signal rest c waits d u x is =
       subst (λ queue. Moves c.events (w.queue from to) (queue from to)) (sym d.queues)
       (subst (λ signals. Moves c.events (w.queue from to) signals) (sym (all-sent d.more (taken p q rest w.queue)))
       (subst (λ events. Moves events (w.queue from to) (taken p q rest w.queue from to ++ sent from to d.more)) (sym d.events)
@@ -205,8 +201,11 @@ module _ (from to : ℕ) where
       before : (e : nat_eq from p && nat_eq to q ≡ true) → w.queue from to ≡ signal ∷ rest
       before e = subst (λ n. w.queue n to ≡ signal ∷ rest) (this e).0 (subst (λ n. w.queue p n ≡ signal ∷ rest) (this e).1 waits)
 
+      shows : Shows p q signal d.first
+      shows = record { world = u; process = x; change = c; more = d.more; is = is; events = d.events }
+
       shown-one : (e : nat_eq from p && nat_eq to q ≡ true) → Shows from to signal d.first
-      shown-one e = subst (λ n. Shows n to signal d.first) (this e).0 (subst (λ n. Shows p n signal d.first) (this e).1 d.shows)
+      shown-one e = subst (λ n. Shows n to signal d.first) (this e).0 (subst (λ n. Shows p n signal d.first) (this e).1 shows)
 
       by : (b : Bool) → nat_eq from p && nat_eq to q ≡ b → Moves (d.first ∷ d.more) (w.queue from to) ((if b then rest else w.queue from to) ++ sent from to d.more)
       by true e = record {
@@ -227,7 +226,7 @@ module _ (from to : ℕ) where
   moves-process : (w : World) (p q : ℕ) (signal : Signal) (rest : List Signal) → w.queue p q ≡ signal ∷ rest → (o : Option Process)
       → MovesEach (w.queue from to) (to_process (with_queue w (taken p q rest w.queue)) p q signal o)
   moves-process w p q signal rest waits None = tt
-  moves-process w p q signal rest waits (Some x) = moves-delivered w p q signal rest _ waits (process-delivers (with_queue w (taken p q rest w.queue)) p q signal x)
+  moves-process w p q signal rest waits (Some x) = moves-delivered w p q signal rest _ waits (process-delivers (with_queue w (taken p q rest w.queue)) p q signal x) (with_queue w (taken p q rest w.queue)) x refl
 
   moves-first : (w : World) (p q : ℕ) (signals : List Signal) → w.queue p q ≡ signals → MovesEach (w.queue from to) (first_of w p q signals)
   moves-first w p q [] waits = tt

@@ -1,11 +1,11 @@
 -- The signals of one pair are delivered in the order in which they were sent.
-use Rattle.std.specs.Prelude.{◌≡◌, ℕ, true, nat_eq, ◌&&◌, if◌then◌else◌, List, [], ◌∷◌, ◌++◌, codes}
+use Rattle.std.specs.Prelude.{◌≡◌, ℕ, nat_eq, ◌&&◌, if◌then◌else◌, List, [], ◌∷◌, ◌++◌, Some}
 use Rattle.std.specs.List.{flat_map}
-use Rattle.ej_term.specs.Term.{Term, Atom}
+use Rattle.ej_term.specs.Term.{Term}
 use Rattle.ej_world.specs.declared.event.Event.{Event}
 use Rattle.ej_world.specs.declared.event.Event.TheVariants as event
-use Rattle.ej_world.specs.Delivery.{exit_message, is_atom}
-use Rattle.ej_world.specs.World.{Signal, Message, Link, Exit}
+use Rattle.ej_world.specs.Delivery.{to_process}
+use Rattle.ej_world.specs.World.{Signal, Message, Link, Exit, Process, World, Change}
 
 -- what an event sends from one process to another
 abbrev pub sent_by : (from to : ℕ) → Event Term → List Signal
@@ -27,19 +27,14 @@ handled_by from to _ = []
 abbrev pub handled : (from to : ℕ) → List (Event Term) → List (Event Term)
 handled from to events = flat_map (handled_by from to) events
 
--- what may be seen of the delivery of an exit signal
-pub data ShowsExit (from to : ℕ) (reason : Term) : Event Term → Type 0 where
-  Drops : ShowsExit from to reason (event.Dropped from to)
-  Ends : ShowsExit from to reason (event.Hit from to reason)
-  Traps : (node : ℕ) → ShowsExit from to reason (event.Deliver from to (exit_message node from reason))
-
--- what may be seen of the delivery of a signal
-pub data Shows (from to : ℕ) : Signal → Event Term → Type 0 where
-  Appends : (message : Term) → Shows from to (Message message) (event.Deliver from to message)
-  Ignores : (signal : Signal) → Shows from to signal (event.Dropped from to)
-  Breaks : (reason : Term) (e : Event Term) → ShowsExit from to reason e → Shows from to (Link reason) e
-  Exits : (reason : Term) (e : Event Term) → ShowsExit from to reason e → Shows from to (Exit reason) e
-  Kills : (reason : Term) → is_atom (codes "kill") reason ≡ true → Shows from to (Exit reason) (event.Hit from to (Atom (codes "killed")))
+-- what is seen of the delivery of a signal: the first event of what it does to some process in some world
+pub record Shows (from to : ℕ) (signal : Signal) (first : Event Term) : Type 0 where
+  pub world : World
+  pub process : Process
+  pub change : Change
+  pub more : List (Event Term)
+  pub is : to_process world from to signal (Some process) ≡ Some change
+  pub events : change.events ≡ first ∷ more
 
 abbrev pub ShowEach : (from to : ℕ) → List Signal → List (Event Term) → Type 0
 ShowEach from to [] [] = Unit {0}
