@@ -15,3 +15,4 @@ pub mod Stacking
 pub mod Rebuilding
 pub mod Loading
 pub mod Distinct
+pub mod Profiled
