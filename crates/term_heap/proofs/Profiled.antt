@@ -1,5 +1,5 @@
 -- That the terms of a heap are of the profile.
-use Rattle.std.proofs.Common.{◌≡◌, ℕ, ℤ, pos, negsuc, ◌<◌, ◌^◌, zero, suc, nat_le, nat_lt, Bool, true, false, ◌&&◌, ◌||◌, if◌then◌else◌, List, [], ◌∷◌, ◌++◌, map, slice_get, Option, Some, unwrap_or, refl, sym, ap, ap₂, subst, ◌∙◌, arith, true≢false, w64}
+use Rattle.std.proofs.Common.{◌≡◌, ℕ, ℤ, pos, negsuc, ◌<◌, ◌^◌, zero, suc, nat_le, nat_lt, Bool, true, false, ◌&&◌, ◌||◌, if◌then◌else◌, List, [], ◌∷◌, ◌++◌, map, slice_get, Option, Some, unwrap_or, refl, sym, ap, subst, ◌∙◌, arith, w64}
 use Rattle.std.specs.Prelude.{IsSome, IfSome, IsFalse, FitsSigned}
 use Rattle.std.specs.List.{All, list_all}
 use Rattle.std.specs.Str.{all_scalars}
@@ -10,12 +10,12 @@ use Rattle.std.proofs.lemmas.Option.{none-some}
 use Rattle.std.proofs.lemmas.Bool.{and_parts, and_from, lt-ltb, le-leb}
 use Rattle.std.proofs.lemmas.List.Elements.{All-head, All-tail}
 use Rattle.std.proofs.lemmas.List.Folds.{list_all-append}
-use Rattle.ej_term.specs.Term.{Term, Int, Fun, Map, Nil, Cons, Terms, Pairs, Empty, Pair, terms, has_64_bits}
+use Rattle.ej_term.specs.Term.{Term, Int, Fun, Map, Nil, Cons, Pairs, Empty, Pair, terms}
 use Rattle.ej_term.specs.Order.{compare}
 use Rattle.ej_term.specs.Maps.{put, put_each, rises}
 use Rattle.ej_term.specs.WellFormed.{in_each, in_each_pair, is_empty, is_in_range, is_well_formed}
 use Rattle.ej_term.proofs.Options.{unsome}
-use Rattle.term_heap.specs.Cells.{pairs, both, meaning, meanings}
+use Rattle.term_heap.specs.Cells.{pairs, both, meaning}
 use Rattle.term_heap.specs.declared.cell.TermId.{TermId}
 use Rattle.term_heap.specs.declared.cell.Cell.{Cell}
 use Rattle.term_heap.proofs.Meanings.{both-is}
