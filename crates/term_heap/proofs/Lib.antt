@@ -18,3 +18,4 @@ pub mod Stacking
 pub mod Rebuilding
 pub mod Loading
 pub mod Distinct
+pub mod Profiled

@@ -5,6 +5,8 @@ ghost use Rattle.forest.specs.View.{lists_in};
 ghost use Rattle.std.specs.Prelude.{◌<◌, ◌≤◌, ◌^◌};
 ghost use Rattle.term_heap.specs.Cells.{meanings, all_meant, stored, number_of, map_place as place_of_map};
 ghost use Rattle.term_heap.specs.Once.{AreKept, once_of, atom_of};
+ghost use Rattle.std.specs.List.{list_all};
+ghost use Rattle.ej_term.specs.WellFormed.{is_well_formed};
 
 use crate::cell::{Cell, TermId};
 use crate::known::Known;
@@ -34,6 +36,7 @@ pub struct Heap {
     ghost meant: { is_some (meanings atoms.keys (stored parts.items (lists_in maps)) [] cells.items) ≡ true },
     ghost once_stand: { AreKept once_of (all_meant atoms.keys (stored parts.items (lists_in maps)) cells.items) once.ids.items },
     ghost named_stand: { AreKept (atom_of atoms.keys) (all_meant atoms.keys (stored parts.items (lists_in maps)) cells.items) named.ids.items },
+    ghost profile: { list_all is_well_formed (all_meant atoms.keys (stored parts.items (lists_in maps)) cells.items) ≡ true },
 }
 
 impl Heap {
@@ -61,11 +64,13 @@ impl Heap {
         }
     }
 
-    /// The cell of an id, which is one of this heap. It names ids below its own alone.
+    /// The cell of an id, which is one of this heap. It names ids below its own alone, and its term is of the
+    /// profile.
     pub fn cell(&self, id: TermId) -> &Cell
         requires { Holds self.now id }
         ensures term { cell_term self.now result.now ≡ Some (term_of self.now id) }
         ensures earlier { NamesEarlier self.now id result.now }
+        ensures profile { is_well_formed (term_of self.now id) ≡ true }
     {
         &self.cells[id.place()]
     }
@@ -113,9 +118,10 @@ impl Heap {
         self.alloc
     }
 
-    /// Adds a cell. Its id stands for the term of the cell.
+    /// Adds a cell. Its id stands for the term of the cell, which is of the profile.
     pub(crate) fn push(&mut self, cell: Cell) -> Result<TermId, AllocError>
-        requires { IsSome (cell_term self.old cell) }
+        requires known { IsSome (cell_term self.old cell) }
+        requires profile { IfSome (cell_term self.old cell) (λ t. is_well_formed t ≡ true) }
         ensures keeps { Keeps self.old self.new }
         ensures term { IfOk result (λ id. slice_get (terms_in self.new) id.0 ≡ cell_term self.old cell) }
     {

@@ -1,9 +1,10 @@
 //! Terms that a heap makes once: nil, the booleans, the integers from 0 to 1,023, and atoms.
 
-ghost use Rattle.std.specs.Prelude.{◌≡◌, ◌<◌, ℕ, pos, suc, if◌then◌else◌, Some, IfOk, slice_get};
+ghost use Rattle.std.specs.Prelude.{◌≡◌, ◌<◌, ℕ, pos, suc, true, if◌then◌else◌, Some, IfOk, slice_get};
 ghost use Rattle.std.specs.Str.{chars};
 ghost use Rattle.ej_term.specs.Term as term;
 ghost use Rattle.ej_term.specs.Outcome as outcome;
+ghost use Rattle.ej_term.specs.WellFormed.{is_well_formed};
 ghost use Rattle.term_heap.specs.Once.{at, once_term, atom_of};
 ghost use Rattle.term_heap.specs.Made.{MakesOnce, NamesOnce};
 ghost use Rattle.term_heap.specs.View.{terms_in, texts_in, Stands, cell_term, Keeps};
@@ -77,7 +78,8 @@ impl Heap {
 
     /// The term of a place, which is that of this cell.
     fn make_once(&mut self, place: usize, cell: Cell) -> Result<TermId, AllocError>
-        requires { cell_term self.old cell ≡ Some (once_term place) }
+        requires cell { cell_term self.old cell ≡ Some (once_term place) }
+        requires profile { is_well_formed (once_term place) ≡ true }
         ensures keeps { Keeps self.old self.new }
         ensures term { IfOk result (λ id. Stands self.new id (once_term place)) }
         ensures once { MakesOnce place self.old result self.new }

@@ -7,6 +7,8 @@ use Rattle.term_heap.specs.View.{texts_in}
 use Rattle.term_heap.specs.declared.known.Known.{Known}
 use Rattle.term_heap.proofs.Made.{extends-get}
 use Rattle.term_heap.proofs.Sharing.{atom-known}
+use Rattle.std.proofs.lemmas.Str.{scalars-chars}
+use Rattle.term_heap.proofs.Profiled.{formed-made}
 use Rattle.term_heap.proofs.heap.Heap.atom.Goals as goal
 
 pub returns-in-Some-clause-once : goal.returns-in-Some-clause-once
@@ -37,3 +39,6 @@ returns-clause-once c = record {
   kept = c.in_ok-keep_name.ensures.kept;
   again = λ other e. absurd (c.in_default.not-Some other (c.kept_name.ensures.kept ∙ ap (λ (k : Known). at k.ids.items c.in_ok-place.place) c.push_text.ensures.tables ∙ e));
 }
+
+pub push-requires-clause-profile : goal.push-requires-clause-profile
+push-requires-clause-profile c = formed-made _ (term.Atom (chars c.args.text.now)) (atom-known (texts_in c.push_text.new.self) c.in_ok-place.place (chars c.args.text.now) c.in_ok-place.ensures.text) (scalars-chars c.args.text.now c.utf8.text)
