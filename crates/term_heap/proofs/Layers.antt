@@ -126,9 +126,6 @@ map-map : {A B C : Type 0} (f : A → B) (g : B → C) (o : Option A) → option
 map-map f g std.None = refl
 map-map f g (Some a) = refl
 
-nil-ended : (os : Option (List Term)) → option_and_then (λ es. option_map (list_onto es) (Some Nil)) os ≡ option_and_then (λ es. Some (list_onto es Nil)) os
-nil-ended os = refl
-
 value-open : (d : AsmTerm-F AsmTerm) → value_step (map-AsmTerm AsmTerm (Option Term) value d) ≡ option_and_then (made_of_layer d) (every (map value (parts_of_layer d)))
 value-open (o.Int n) = refl
 value-open (o.Atom name) = refl

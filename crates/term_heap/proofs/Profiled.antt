@@ -1,13 +1,13 @@
 -- That the terms of a heap are of the profile.
-use Rattle.std.proofs.Common.{◌≡◌, ℕ, ℤ, pos, negsuc, ◌<◌, ◌^◌, zero, suc, nat_le, nat_lt, Bool, true, false, ◌&&◌, ◌||◌, if◌then◌else◌, List, [], ◌∷◌, ◌++◌, map, slice_get, Option, Some, unwrap_or, refl, sym, ap, subst, ◌∙◌, arith, w64}
-use Rattle.std.specs.Prelude.{IsSome, IfSome, IsFalse, FitsSigned}
+use Rattle.std.proofs.Common.{◌≡◌, ℕ, ◌<◌, zero, suc, nat_le, Bool, true, false, ◌&&◌, ◌||◌, if◌then◌else◌, List, [], ◌∷◌, ◌++◌, map, slice_get, Option, Some, unwrap_or, refl, sym, ap, subst, ◌∙◌, arith}
+use Rattle.std.specs.Prelude.{IsSome, IfSome, IsFalse}
 use Rattle.std.specs.List.{All, list_all}
 use Rattle.std.specs.Str.{all_scalars}
 use Rattle.std.proofs.lemmas.Option.{none-some}
-use Rattle.std.proofs.lemmas.Bool.{and_parts, and_from, lt-ltb, le-leb}
+use Rattle.std.proofs.lemmas.Bool.{and_parts, and_from, le-leb}
 use Rattle.std.proofs.lemmas.List.Elements.{All-head, All-tail}
 use Rattle.std.proofs.lemmas.List.Folds.{list_all-append}
-use Rattle.ej_term.specs.Term.{Term, Int, Fun, Map, Nil, Cons, Pairs, Pair, terms}
+use Rattle.ej_term.specs.Term.{Term, Fun, Map, Nil, Cons, Pairs, Pair, terms}
 use Rattle.ej_term.specs.Maps.{rises}
 use Rattle.ej_term.specs.WellFormed.{in_each, in_each_pair, is_empty, is_in_range, is_well_formed}
 use Rattle.ej_term.proofs.Options.{unsome}
@@ -47,13 +47,6 @@ formed-cons ts head tail all is-head is-tail =
     formed-made (both Cons (slice_get ts head.0) (slice_get ts tail.0)) (Cons (term_at ts head) (term_at ts tail))
     (both-is Cons (slice_get ts head.0) (slice_get ts tail.0) (term_at ts head) (term_at ts tail) (known (slice_get ts head.0) Nil is-head) (known (slice_get ts tail.0) Nil is-tail))
     (and_from (is_well_formed (term_at ts head)) (is_well_formed (term_at ts tail)) (formed-id ts head all is-head) (formed-id ts tail all is-tail))
-
-pub formed-int : (n : ℤ) → FitsSigned w64 n → IsFormed (Int n)
-formed-int (pos n) fits = lt-ltb n (2 ^ 63) fits.sfits
-formed-int (negsuc n) fits = lt-ltb n (2 ^ 63) fits.sfits
-
-pub formed-node : (node : ℕ) → node < 2 ^ 32 → nat_lt node (2 ^ 32) ≡ true
-formed-node node h = lt-ltb node (2 ^ 32) h
 
 -- a fun, whose names are characters of text, and which has no free variables where it is external
 pub formed-fun : (local : Bool) (owner name : List ℕ) (arity : ℕ) (ts : List Term) (ids : List TermId) → AreFormed ts → All (IsId ts) ids → all_scalars owner ≡ true → all_scalars name ≡ true → arity < 256 → (IsFalse local → ids ≡ [])

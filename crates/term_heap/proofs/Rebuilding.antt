@@ -4,7 +4,7 @@ use Rattle.std.specs.Prelude as std
 use Rattle.std.specs.Prelude.{IsSome}
 use Rattle.std.specs.Borrow.{Bor}
 use Rattle.std.proofs.lemmas.Bool.{leb-true}
-use Rattle.std.proofs.lemmas.List.{length-map, length-drop, map-append, append_assoc, append-nil, drop_more, take-map, drop-map, take-append-drop}
+use Rattle.std.proofs.lemmas.List.{length-map, length-drop, map-append, append-nil, drop_more, take-map, drop-map, take-append-drop}
 use Rattle.std.proofs.lemmas.List.Elements.{All-nil, All-cons, All-append, All-take, All-drop, All-head, All-tail}
 use Rattle.std.proofs.Math.Seq.{drop-append_seam}
 use Rattle.ej_term.specs.declared.asm_term.AsmTerm.{AsmTerm}
@@ -38,13 +38,6 @@ applied-is t stack first is at = by (nat_le (length (inner t)) (length stack)) r
     )
     by false e =
         absurd (true≢false (sym is ∙ ap (λ b. is_some (if b then option_map (λ v. take (length stack - length (inner t)) stack ++ v ∷ []) (made_of t (drop (length stack - length (inner t)) stack)) else std.None)) e))
-
-pub applied-within : (heap : Heap) (t : AsmTerm) (ids : List TermId) → IsSome (applied t (terms_at heap ids)) → length (inner t) ≤ length ids
-applied-within heap t ids is =
-    let count = length-map ids (term_of heap) in
-    let within = applied-is t (terms_at heap ids) (length (terms_at heap ids) - length (inner t)) is refl in
-    let some : length (inner t) ≤ length (terms_at heap ids) = within.0 in
-    omega (arith, count, some)
 
 mapped-some : {A B : Type 0} (f : A → B) (o : Option A) → is_some (option_map f o) ≡ is_some o
 mapped-some f std.None = refl
@@ -105,11 +98,6 @@ next-applies order at x d stack whole some within picked all e =
     let is : IsSome (evaluated (behind (drop (at - 1) order)) []) = front-some (behind (take (at - 1) order)) (behind (drop (at - 1) order)) whole (ap (λ ts. evaluated ts []) (sym (seam order (at - 1))) ∙ all) in
     sym (ap is_some (ap (λ ts. evaluated ts []) (split-at order at x d some within picked) ∙ ap (option_and_then (applied x.now)) e)) ∙ is
 
-pub next-evaluated : (order : List (Bor AsmTerm)) (at : ℕ) (x d : Bor AsmTerm) (stack new : List Term) → 0 < at → at ≤ length order → x ≡ slice_index_or order (at - 1) d
-    → evaluated (behind (drop at order)) [] ≡ Some stack → applied x.now stack ≡ Some new → evaluated (behind (drop (at - 1) order)) [] ≡ Some new
-next-evaluated order at x d stack new some within picked e is =
-    ap (λ ts. evaluated ts []) (split-at order at x d some within picked) ∙ ap (option_and_then (applied x.now)) e ∙ is
-
 -- a term with no opaque token has a value
 pub has-value : (t : AsmTerm) → has_opaque t ≡ false → (v : Term) × (value t ≡ Some v)
 has-value t e = by (value t) (law t ∙ ap not e)
@@ -142,15 +130,6 @@ none-left heap t o ids plain e is none =
     absurd (cc)
 
 -- keys with their values
-
-pub paired-step : (parts : List TermId) (at : ℕ) (d : TermId) (entries : List (TermId × TermId)) (whole : List (TermId × TermId)) → 2 * at + 1 < length parts → entries ++ paired (drop (2 * at) parts) ≡ whole
-    → (entries ++ (slice_index_or parts (2 * at) d, slice_index_or parts (2 * at + 1) d) ∷ []) ++ paired (drop (2 * (at + 1)) parts) ≡ whole
-paired-step parts at d entries whole within e =
-    let next : 2 * at + 1 + 1 ≡ 2 * (at + 1) = omega arith in
-    append_assoc entries ((slice_index_or parts (2 * at) d, slice_index_or parts (2 * at + 1) d) ∷ []) (paired (drop (2 * (at + 1)) parts))
-    ∙ ap (λ (zs : List TermId). entries ++ paired zs)
-    (sym (drop_more parts (2 * at) d (omega (arith, within)) ∙ ap (λ zs. slice_index_or parts (2 * at) d ∷ zs) (drop_more parts (2 * at + 1) d within) ∙ ap (λ n. slice_index_or parts (2 * at) d ∷ slice_index_or parts (2 * at + 1) d ∷ drop n parts) next))
-    ∙ e
 
 pub paired-short : (parts : List TermId) → length parts ≤ 1 → paired parts ≡ []
 paired-short [] h = refl

@@ -101,15 +101,6 @@ taken-opaque popped pending pushed t b e was now same =
     alone true = refl
     alone false = refl
 
--- an opaque token that is taken
-pub found-opaque : (popped pending : List AsmTerm) (t : AsmTerm) (b : Bool) → b ≡ list_any has_opaque pending → pending ≡ popped ++ t ∷ [] → has_opaque t ≡ true → b ≡ true
-found-opaque popped pending t b e was is =
-    e ∙ ap (list_any has_opaque) was ∙ list_any-append has_opaque popped (t ∷ []) ∙ ap (λ c. list_any has_opaque popped || (c || false)) is ∙ either (list_any has_opaque popped)
-  where
-    either : (c : Bool) → (c || true) ≡ true
-    either true = refl
-    either false = refl
-
 -- how many terms are still to be taken
 abbrev pub counts : List AsmTerm → ℕ
 counts ts = total (map count ts)
