@@ -110,8 +110,8 @@ pub tree-cell : (heap : Heap) (tree : Tree) (place count : ℕ) → IsTree heap 
 tree-cell heap tree place count is at long =
     let es = listed heap tree in
     let test : nat_eq place (map_place (number_of place)) && nat_eq count (length es) ≡ true =
-        and_from (nat_eq place (map_place (number_of place))) (nat_eq count (length es))
-        (eq-eqb place (map_place (number_of place)) (at ∙ ap map_place (sym (at-number tree.number) ∙ ap number_of (sym at)))) (eq-eqb count (length es) long) in
+    and_from (nat_eq place (map_place (number_of place))) (nat_eq count (length es))
+    (eq-eqb place (map_place (number_of place)) (at ∙ ap map_place (sym (at-number tree.number) ∙ ap number_of (sym at)))) (eq-eqb count (length es) long) in
     ap (option_and_then (map_of (terms_in heap)))
     (ap (option_and_then (λ zs. if nat_eq place (map_place (number_of place)) && nat_eq count (length zs) then Some zs else std.None))
     (ap (slice_get (lists_in heap.maps)) (ap number_of at ∙ at-number tree.number) ∙ listed-at heap tree is.held)

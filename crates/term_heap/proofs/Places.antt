@@ -38,7 +38,7 @@ stand-parts ps ts first [] xs at e = e
 stand-parts ps ts first (id ∷ ids) xs at e =
     let f = first-every (term_for ts id) _ xs e in
     both-is (◌∷◌) (option_and_then (term_for ts) (part_at ps first)) (parts_of ps ts (suc first) (length ids)) f.0 f.1
-        (ap (option_and_then (term_for ts)) at.0 ∙ f.2) (stand-parts ps ts (suc first) ids f.1 at.1 f.3)
+    (ap (option_and_then (term_for ts)) at.0 ∙ f.2) (stand-parts ps ts (suc first) ids f.1 at.1 f.3)
     ∙ ap Some f.4
 
 -- a row's
@@ -64,7 +64,7 @@ row-parts ps few ts first n xs e =
     let front : length (take first ps.ids) ≡ first = grind (arith, common_steps, inside) in
     let long : length f.0 ≡ n = ap length (sym c.1) ∙ grind (arith, common_steps, inside) in
     subst (λ k. parts_of ps ts first k ≡ Some xs) long
-        (stand-parts ps ts first f.0 xs (row-stands ps few (take first ps.ids) f.0 (drop n (drop first ps.ids)) first whole front) f.2)
+    (stand-parts ps ts first f.0 xs (row-stands ps few (take first ps.ids) f.0 (drop n (drop first ps.ids)) first whole front) f.2)
 
 -- a map's
 module _ (ps : Parts) (number : ℕ) (es : List (TermId × TermId)) (is : slice_get ps.maps number ≡ Some es) (few : length es < 2 ^ 31) where

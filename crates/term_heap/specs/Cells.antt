@@ -75,7 +75,7 @@ row_of parts earlier first count = option_and_then (terms_of earlier) (run parts
 abbrev pub entries_from : Parts → (first count : ℕ) → Option (List (TermId × TermId))
 entries_from parts first count =
     option_and_then (λ es. if nat_eq first (map_place (number_of first)) && nat_eq count (length es) then Some es else std.None)
-        (slice_get parts.maps (number_of first))
+    (slice_get parts.maps (number_of first))
 
 abbrev pub all_three : {X Y Z W : Type 0} → (X → Y → Z → W) → Option X → Option Y → Option Z → Option W
 all_three f (Some x) (Some y) (Some z) = Some (f x y z)

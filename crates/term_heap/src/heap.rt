@@ -18,6 +18,7 @@ use std::alloc::{AllocError, Global};
 
 // A map with a number of the forest has places from MAPS on, STRIDE for each number.
 const MAPS: usize = 1 << 63;
+
 const STRIDE: usize = 1 << 32;
 
 /// A key and its value.
@@ -160,7 +161,12 @@ impl Heap {
     }
 
     /// Adds the list with another entry at a place.
-    pub(crate) fn with(&mut self, tree: Tree, place: usize, entry: Entry) -> Result<Tree, AllocError>
+    pub(crate) fn with(
+        &mut self,
+        tree: Tree,
+        place: usize,
+        entry: Entry,
+    ) -> Result<Tree, AllocError>
         requires tree { forest.Holds self.old.maps tree }
         requires place { place < length (listed self.old tree) }
         ensures keeps { Keeps self.old self.new }
@@ -172,7 +178,12 @@ impl Heap {
     }
 
     /// Adds the list with one more entry, put before that at a place or at its end.
-    pub(crate) fn with_new(&mut self, tree: Tree, place: usize, entry: Entry) -> Result<Tree, AllocError>
+    pub(crate) fn with_new(
+        &mut self,
+        tree: Tree,
+        place: usize,
+        entry: Entry,
+    ) -> Result<Tree, AllocError>
         requires tree { forest.Holds self.old.maps tree }
         requires place { place ≤ length (listed self.old tree) }
         ensures keeps { Keeps self.old self.new }

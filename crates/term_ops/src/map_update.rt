@@ -61,11 +61,7 @@ pub(crate) fn update(
 }
 
 /// `maps:remove/2`: the map without the key.
-pub(crate) fn remove(
-    heap: &mut Heap,
-    key: TermId,
-    map: TermId,
-) -> Result<PureAnswer, AllocError>
+pub(crate) fn remove(heap: &mut Heap, key: TermId, map: TermId) -> Result<PureAnswer, AllocError>
     requires key { Holds heap.old key }
     requires map { Holds heap.old map }
     ensures keeps { Keeps heap.old heap.new }

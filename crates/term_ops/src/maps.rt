@@ -55,11 +55,7 @@ pub(crate) fn map_size(heap: &mut Heap, map: TermId) -> Result<PureAnswer, Alloc
 
 /// `map_get/2` and `maps:get/2`: the value at a key.
 #[tactic(auto, using(crate::proofs::MapsLookup::map_get_is))]
-pub(crate) fn map_get(
-    heap: &mut Heap,
-    key: TermId,
-    map: TermId,
-) -> Result<PureAnswer, AllocError>
+pub(crate) fn map_get(heap: &mut Heap, key: TermId, map: TermId) -> Result<PureAnswer, AllocError>
     requires key { Holds heap.old key }
     requires map { Holds heap.old map }
     ensures keeps { Keeps heap.old heap.new }
@@ -93,11 +89,7 @@ pub(crate) fn is_map_key(
 
 /// `maps:find/2`: `{ok,V}` with the value at a key, or `error`.
 #[tactic(auto, using(crate::proofs::MapsLookup::maps_find_is))]
-pub(crate) fn find(
-    heap: &mut Heap,
-    key: TermId,
-    map: TermId,
-) -> Result<PureAnswer, AllocError>
+pub(crate) fn find(heap: &mut Heap, key: TermId, map: TermId) -> Result<PureAnswer, AllocError>
     requires key { Holds heap.old key }
     requires map { Holds heap.old map }
     ensures keeps { Keeps heap.old heap.new }

@@ -95,11 +95,7 @@ fn numbered(heap: &mut Heap, last: u16) -> Result<TermId, AllocError>
 }
 
 /// Whether the keys rise.
-fn rises(
-    alloc: Global,
-    heap: &Heap,
-    entries: &[(TermId, TermId)],
-) -> Result<bool, AllocError>
+fn rises(alloc: Global, heap: &Heap, entries: &[(TermId, TermId)]) -> Result<bool, AllocError>
     requires { HoldsEntries heap.now entries.now }
 {
     for at in 1..entries.len() {

@@ -44,7 +44,7 @@ returns-in-Equal t c =
     let heap = c.args.heap.now in
     let b = beside heap c.maps.result.now c.args.tree c.in-Some.top c.maps.ensures c.requires.tree c.in-Some.ensures in
     stands-here (term_of heap c.args.key) (entries_at heap (listed heap c.args.tree)) (entries_at heap (listed heap c.in-Some.top.left)) (entry_of heap c.in-Some.top.item) (entries_at heap (listed heap c.in-Some.top.right)) c.len.result
-        b.are (counted heap c.maps-in-Equal.result.now c.in-Some.top.left c.len.result c.maps-in-Equal.ensures c.len.ensures.len) c.requires.tree.rises (sym c.in_ok-compare.ensures ∙ c.in-Equal.is)
+    b.are (counted heap c.maps-in-Equal.result.now c.in-Some.top.left c.len.result c.maps-in-Equal.ensures c.len.ensures.len) c.requires.tree.rises (sym c.in_ok-compare.ensures ∙ c.in-Equal.is)
 
 pub returns-in-Ok : goal.returns-in-Ok
 returns-in-Ok t c =
@@ -52,8 +52,8 @@ returns-in-Ok t c =
     let b = beside heap c.maps.result.now c.args.tree c.in-Some.top c.maps.ensures c.requires.tree c.in-Some.ensures in
     let place : StandsAt (term_of heap c.args.key) (entries_at heap (listed heap c.in-Some.top.right)) c.in-Ok.place = subst (IsPlace (term_of heap c.args.key) (entries_at heap (listed heap c.in-Some.top.right))) c.in-Ok.is c.in_ok-place-in-Greater.ensures in
     stands-behind (term_of heap c.args.key) (entries_at heap (listed heap c.args.tree)) (entries_at heap (listed heap c.in-Some.top.left)) (entry_of heap c.in-Some.top.item) (entries_at heap (listed heap c.in-Some.top.right))
-        (c.len-before.result + 1) c.in-Ok.place (c.len-before.result + 1 + c.in-Ok.place)
-        b.are (ap (λ n. n + 1) (counted heap c.maps-in-Greater.result.now c.in-Some.top.left c.len-before.result c.maps-in-Greater.ensures c.len-before.ensures.len)) refl c.requires.tree.rises (sym c.in_ok-compare.ensures ∙ c.in-Greater.is) place
+    (c.len-before.result + 1) c.in-Ok.place (c.len-before.result + 1 + c.in-Ok.place)
+    b.are (ap (λ n. n + 1) (counted heap c.maps-in-Greater.result.now c.in-Some.top.left c.len-before.result c.maps-in-Greater.ensures c.len-before.ensures.len)) refl c.requires.tree.rises (sym c.in_ok-compare.ensures ∙ c.in-Greater.is) place
 
 pub returns-in-Err : goal.returns-in-Err
 returns-in-Err t c =
@@ -61,8 +61,8 @@ returns-in-Err t c =
     let b = beside heap c.maps.result.now c.args.tree c.in-Some.top c.maps.ensures c.requires.tree c.in-Some.ensures in
     let place : GoesTo (term_of heap c.args.key) (entries_at heap (listed heap c.in-Some.top.right)) c.in-Err.place = subst (IsPlace (term_of heap c.args.key) (entries_at heap (listed heap c.in-Some.top.right))) c.in-Err.is c.in_ok-place-in-Greater.ensures in
     goes-behind (term_of heap c.args.key) (entries_at heap (listed heap c.args.tree)) (entries_at heap (listed heap c.in-Some.top.left)) (entry_of heap c.in-Some.top.item) (entries_at heap (listed heap c.in-Some.top.right))
-        (c.len-before.result + 1) c.in-Err.place (c.len-before.result + 1 + c.in-Err.place)
-        b.are (ap (λ n. n + 1) (counted heap c.maps-in-Greater.result.now c.in-Some.top.left c.len-before.result c.maps-in-Greater.ensures c.len-before.ensures.len)) refl c.requires.tree.rises (sym c.in_ok-compare.ensures ∙ c.in-Greater.is) place
+    (c.len-before.result + 1) c.in-Err.place (c.len-before.result + 1 + c.in-Err.place)
+    b.are (ap (λ n. n + 1) (counted heap c.maps-in-Greater.result.now c.in-Some.top.left c.len-before.result c.maps-in-Greater.ensures c.len-before.ensures.len)) refl c.requires.tree.rises (sym c.in_ok-compare.ensures ∙ c.in-Greater.is) place
 
 -- a place is below the bound of a list, which is far from the end of the numbers
 pub overflow_add-result : goal.overflow_add-result

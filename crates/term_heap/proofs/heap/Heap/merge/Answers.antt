@@ -15,8 +15,8 @@ pub map_of-requires : goal.map_of-requires
 map_of-requires c =
     let heap = c.args.self.now in
     let merged : from_entries (entries_at heap c.in_ok-merged.merged.items) ≡ put_each (pairs_of heap c.args.first) (entries_at heap (entries_of heap c.args.second)) =
-        c.in_ok-merged.ensures.map
-        ∙ ap₂ (λ (xs ys : List Ids). put_each (from_entries (entries_at heap xs)) (entries_at heap ys)) (c.deref-2.ensures.value ∙ c.in_ok-firsts.ensures) (c.deref-3.ensures.value ∙ c.in_ok-seconds.ensures) in
+    c.in_ok-merged.ensures.map
+    ∙ ap₂ (λ (xs ys : List Ids). put_each (from_entries (entries_at heap xs)) (entries_at heap ys)) (c.deref-2.ensures.value ∙ c.in_ok-firsts.ensures) (c.deref-3.ensures.value ∙ c.in_ok-seconds.ensures) in
     tree-made heap c.collect.new.self c.in_ok-tree.tree c.in_ok-merged.merged.items c.collect.ensures.terms c.in_ok-tree.ensures.held (c.in_ok-tree.ensures.list ∙ c.deref-4.ensures.value) c.in_ok-merged.ensures.held
     (subst Rising (sym merged) (rising-put_each (pairs_of heap c.args.first) (entries_at heap (entries_of heap c.args.second)) c.requires.first.rises))
 
@@ -24,7 +24,7 @@ pub returns-clause-term : goal.returns-clause-term
 returns-clause-term c =
     let heap = c.args.self.now in
     let merged : from_entries (entries_at heap c.in_ok-merged.merged.items) ≡ put_each (pairs_of heap c.args.first) (entries_at heap (entries_of heap c.args.second)) =
-        c.in_ok-merged.ensures.map
-        ∙ ap₂ (λ (xs ys : List Ids). put_each (from_entries (entries_at heap xs)) (entries_at heap ys)) (c.deref-2.ensures.value ∙ c.in_ok-firsts.ensures) (c.deref-3.ensures.value ∙ c.in_ok-seconds.ensures) in
+    c.in_ok-merged.ensures.map
+    ∙ ap₂ (λ (xs ys : List Ids). put_each (from_entries (entries_at heap xs)) (entries_at heap ys)) (c.deref-2.ensures.value ∙ c.in_ok-firsts.ensures) (c.deref-3.ensures.value ∙ c.in_ok-seconds.ensures) in
     subst (λ (ps : Pairs). IfOk c.map_of.result (λ id. Stands c.map_of.new.self id (term.Map ps)))
     (ap from_entries (entries-made c.args.self.now c.collect.new.self c.in_ok-tree.tree c.in_ok-merged.merged.items c.collect.ensures.terms (c.in_ok-tree.ensures.list ∙ c.deref-4.ensures.value)) ∙ merged) c.map_of.ensures.term
