@@ -2,6 +2,7 @@
 
 use ej_term::{AsmTerm, Text};
 use sqlite_items::Items;
+use std::alloc::{AllocError, Global};
 use std::test::Fail;
 use term_heap::Heap;
 use term_text::{ReadFault, print, read};
@@ -101,6 +102,30 @@ fn exactly_prints_are_read(rt: HostRuntime) -> Result<(), Fail> {
             Err(fault) => return Err(Fail::from(fault)),
         }
     }
+    Ok(())
+}
+
+/// So many brackets, one in the other.
+fn nested(alloc: Global, depth: usize) -> Result<String, AllocError> {
+    let mut text = String::new(alloc);
+    for _ in 0..depth {
+        text.push_str("[")?;
+    }
+    for _ in 0..depth {
+        text.push_str("]")?;
+    }
+    Ok(text)
+}
+
+#[test]
+fn brackets_go_256_deep(rt: HostRuntime) -> Result<(), Fail> {
+    let alloc = rt.alloc();
+    let mut heap = Heap::new(alloc);
+    let deepest = nested(alloc, 256)?;
+    assert!(rt; read(alloc, &mut heap, deepest.as_bytes()).is_ok());
+    let deeper = nested(alloc, 257)?;
+    let refused = read(alloc, &mut heap, deeper.as_bytes());
+    assert!(rt; matches!(refused, Err(ReadFault::BadText)));
     Ok(())
 }
 
