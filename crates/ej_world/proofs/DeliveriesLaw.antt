@@ -1,5 +1,5 @@
 -- The deliveries of `auto` leave no signal behind.
-use Rattle.std.proofs.Common.{◌≡◌, ℕ, zero, suc, ◌+◌, ◌<◌, ◌≤◌, Bool, true, false, not, nat_eq, nat_lt, ◌&&◌, ◌⊎◌, inl, inr, List, [], ◌∷◌, ◌++◌, codes, length, map, Option, None, Some, option_map, option_and_then, refl, sym, ap, subst, arith}
+use Rattle.std.proofs.Common.{◌≡◌, ℕ, zero, suc, ◌+◌, ◌<◌, ◌≤◌, Bool, true, false, not, nat_eq, nat_lt, ◌&&◌, ◌⊎◌, inl, inr, List, [], ◌∷◌, ◌++◌, codes, length, map, Option, None, Some, option_map, option_and_then, refl, sym, ap, subst, ◌∙◌, arith}
 use Rattle.std.specs.Prelude.{slice_get, slice_set, if◌then◌else◌}
 use Rattle.std.specs.List.{AllByRecursion, flat_map, filter, find}
 use Rattle.std.proofs.lemmas.Bool.{cond_both, ltb-true, ltb-false, cases_order}
@@ -7,8 +7,8 @@ use Rattle.std.proofs.lemmas.List.{length-set}
 use Rattle.std.proofs.lemmas.Option.{same_Some}
 use Rattle.ej_term.specs.Term.{Term, Atom}
 use Rattle.ej_world.specs.declared.event.Event.TheVariants as event
-use Rattle.ej_world.specs.Auto.{below, pairs, has_signal, first_pair, links_of_live, signals, deliver_next, deliveries, all_delivered}
-use Rattle.ej_world.specs.Choices.{Code, System, Happened, of_change, delivered}
+use Rattle.ej_world.specs.Auto.{below, pairs, has_signal, first_pair, links_of_live, signals, behind, deliver_next, deliveries, all_delivered}
+use Rattle.ej_world.specs.Choices.{Code, System, Happened, closed, of_change, delivered}
 use Rattle.ej_world.specs.Delivery.{is_atom, exit_message, appended, hit, exits, is_linked, without_link, to_live, to_process, with_queue, first_of, deliver}
 use Rattle.ej_world.specs.Lawful.{States, Lawful, AreAsked}
 use Rattle.ej_world.specs.Runs.{Choice}
@@ -177,6 +177,10 @@ none-left w (Some p) e le = by (deliver w p.0 p.1) (pair-fewer w p e)
     by None fewer = absurd fewer
     by (Some c) fewer = absurd (omega (arith, fewer))
 
+-- where there is a least pair, there is a delivery
+pub pair_delivers : (w : World) (p : ℕ × ℕ) → first_pair w ≡ Some p → deliver w p.0 p.1 ≡ None → ⊥
+pair_delivers w p e none = subst (Fewer w) none (pair-fewer w p e)
+
 -- ---- all deliveries
 
 module _ {S : Type 0} where
@@ -201,6 +205,44 @@ module _ {S : Type 0} where
 
   pub all_delivered_end : (r : System S) → Still (all_delivered r)
   all_delivered_end r = deliveries_end (signals r.world) r (omega arith)
+
+  -- ---- one delivery behind the other
+
+  no-more : (n : ℕ) (r : System S) → first_pair r.world ≡ None → deliveries n r ≡ record { events = []; system = r }
+  no-more zero r none = refl
+  no-more (suc n) r none = ap (λ o. deliver_next (deliveries n) r (option_and_then (λ (p : ℕ × ℕ). delivered r p.0 p.1) o)) none
+
+  -- one more than that many are as many
+  enough : (n m : ℕ) (r : System S) → signals r.world ≤ n → signals r.world ≤ m → deliveries n r ≡ deliveries m r
+  enough zero m r le more = sym (no-more m r (none-left r.world (first_pair r.world) refl le))
+  enough (suc n) zero r le more = no-more (suc n) r (none-left r.world (first_pair r.world) refl more)
+  enough (suc n) (suc m) r le more = by (first_pair r.world) refl (enough n m)
+    where
+      on : (o : Option Change) → Fewer r.world o → ((r : System S) → signals r.world ≤ n → signals r.world ≤ m → deliveries n r ≡ deliveries m r)
+          → deliver_next (deliveries n) r (option_map (of_change r.states) o) ≡ deliver_next (deliveries m) r (option_map (of_change r.states) o)
+      on None fewer rest = absurd fewer
+      on (Some c) fewer rest = ap (behind (closed (of_change r.states c)).events) (rest (of_change r.states c).system (omega (arith, fewer)) (omega (arith, fewer)))
+
+      by : (o : Option (ℕ × ℕ)) → first_pair r.world ≡ o → ((r : System S) → signals r.world ≤ n → signals r.world ≤ m → deliveries n r ≡ deliveries m r)
+          → deliver_next (deliveries n) r (option_and_then (λ (p : ℕ × ℕ). delivered r p.0 p.1) o) ≡ deliver_next (deliveries m) r (option_and_then (λ (p : ℕ × ℕ). delivered r p.0 p.1) o)
+      by None e rest = refl
+      by (Some p) e rest = on (deliver r.world p.0 p.1) (pair-fewer r.world p e) rest
+
+  pub all_delivered_none : (r : System S) → first_pair r.world ≡ None → all_delivered r ≡ record { events = []; system = r }
+  all_delivered_none r none = no-more (signals r.world) r none
+
+  pub delivery_falls : (r : System S) (p : ℕ × ℕ) (c : Change) → first_pair r.world ≡ Some p → deliver r.world p.0 p.1 ≡ Some c → signals c.world < signals r.world
+  delivery_falls r p c e is = subst (Fewer r.world) is (pair-fewer r.world p e)
+
+  -- all deliveries are the first one, and then all behind it
+  pub all_delivered_next : (r : System S) (p : ℕ × ℕ) (c : Change) → first_pair r.world ≡ Some p → deliver r.world p.0 p.1 ≡ Some c
+      → all_delivered r ≡ behind (closed (of_change r.states c)).events (all_delivered (of_change r.states c).system)
+  all_delivered_next r p c e is =
+      let fewer = delivery_falls r p c e is in
+      enough (signals r.world) (suc (signals r.world)) r (omega arith) (omega arith)
+      ∙ (ap (λ o. deliver_next (deliveries (signals r.world)) r (option_and_then (λ (p : ℕ × ℕ). delivered r p.0 p.1) o)) e
+      ∙ (ap (λ o. deliver_next (deliveries (signals r.world)) r (option_map (of_change r.states) o)) is
+      ∙ ap (behind (closed (of_change r.states c)).events) (enough (signals r.world) (signals c.world) (of_change r.states c).system (omega (arith, fewer)) (omega arith))))
 
 -- and where only pairs of processes have signals, none is left at all
 pub nothing_waits : (w : World) → SoundQueue (next_pid w) w.queue → first_pair w ≡ None → (from to : ℕ) → w.queue from to ≡ []

@@ -26,7 +26,7 @@ use Rattle.ej_world.proofs.StepsLaw.{run_steps}
 
 -- ---- what a turn gives
 
-made-length : (events : List (Event Term)) → length (made events) ≡ length (spawned events)
+pub made-length : (events : List (Event Term)) → length (made events) ≡ length (spawned events)
 made-length [] = refl
 made-length (event.Spawn p q how ∷ events) = ap suc (made-length events)
 made-length (_ ∷ events) = made-length events
@@ -51,7 +51,7 @@ given-between me next bound live (e ∷ events) may lt le =
     let whole = next_made next e events in
     (one-between me next bound live e may.0 lt (omega arith), given-between me (next_after next e) bound (live_after live e) events may.1 lt (omega arith))
 
-length-agreeing : (me : ℕ) (old new : List ℕ) (number : ℕ) (ps : List Process) → length (agreeing me old new number ps) ≡ length ps
+pub length-agreeing : (me : ℕ) (old new : List ℕ) (number : ℕ) (ps : List Process) → length (agreeing me old new number ps) ≡ length ps
 length-agreeing me old new number [] = refl
 length-agreeing me old new number (p ∷ ps) = ap suc (length-agreeing me old new (number + 1) ps)
 
@@ -67,18 +67,18 @@ ending-between bound number links (Ends reason) lt rise = (tt, ends-between boun
 
 -- ---- ready processes
 
-ready-live : (clock : ℕ) (p : Process) (status : Status) → is_ready_in clock p status ≡ true → world.has_not_ended status ≡ true
+pub ready-live : (clock : ℕ) (p : Process) (status : Status) → is_ready_in clock p status ≡ true → world.has_not_ended status ≡ true
 ready-live clock p Running ready = refl
 ready-live clock p Waiting ready = refl
 ready-live clock p Ended ready = absurd cc
 
-ready-turn : (w : World) (me : ℕ) (p : Process) (status : Status) → is_ready_in w.clock p status ≡ true → may_turn status (view_of w me p) ≡ true
+pub ready-turn : (w : World) (me : ℕ) (p : Process) (status : Status) → is_ready_in w.clock p status ≡ true → may_turn status (view_of w me p) ≡ true
 ready-turn w me p Running ready = refl
 ready-turn w me p Waiting ready = ready
 ready-turn w me p Ended ready = absurd cc
 
 module _ {S : Type 0} (code : Code S) (IsState : States S) where
-  ready-state : (clock : ℕ) (p : Process) (status : Status) (s : S) → is_ready_in clock p status ≡ true → Kept IsState status s → IsState status s
+  pub ready-state : (clock : ℕ) (p : Process) (status : Status) (s : S) → is_ready_in clock p status ≡ true → Kept IsState status s → IsState status s
   ready-state clock p Running s ready kept = kept
   ready-state clock p Waiting s ready kept = kept
   ready-state clock p Ended s ready kept = absurd cc

@@ -1,0 +1,15 @@
+use Rattle.std.proofs.Common.{sym, ap, ◌∙◌}
+use Rattle.std.proofs.lemmas.Option.{slice_get-map}
+use Rattle.std.specs.Option.{option_map}
+use Rattle.proc_sched.specs.Stands.{process_of, due_at}
+use Rattle.proc_sched.proofs.node.Node.deadline.Goals as goal
+
+pub returns-in-Some : goal.returns-in-Some
+returns-in-Some c =
+    let heap = c.args.self.now.heap in
+    c.to_come.ensures heap ∙ ap (λ o. due_at c.args.self.now.clock (option_map (process_of heap) o)) c.in-Some.ensures ∙ sym (ap (due_at c.args.self.now.clock) (slice_get-map (process_of heap) c.args.self.now.slots.items c.args.number))
+
+pub returns-in-None : goal.returns-in-None
+returns-in-None c =
+    let heap = c.args.self.now.heap in
+    ap (λ o. due_at c.args.self.now.clock (option_map (process_of heap) o)) c.in-None.ensures ∙ sym (ap (due_at c.args.self.now.clock) (slice_get-map (process_of heap) c.args.self.now.slots.items c.args.number))

@@ -1,0 +1,12 @@
+pub mod Calls
+pub mod Choose
+pub mod Faults
+pub mod Freed
+pub mod Loaded
+pub mod Nodes
+pub mod Seen
+pub mod Sent
+pub mod Stands
+pub mod Systems
+pub mod Turning
+pub mod Worlds
