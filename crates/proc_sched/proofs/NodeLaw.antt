@@ -341,15 +341,8 @@ then-if (Err e) f p = p
 pub nothing-left : (q : VecDeque Signal Global) → q.len ≡ 0 → q.items ≡ []
 nothing-left q e = nil_from_length q.items (omega (arith, q.ok.0))
 
-pub none-left : (q : VecDeque Signal Global) (o : Option Signal) (rest : List Signal) → ((d : Signal) → 0 < q.len → o ≡ Some (get_or q.items 0 d)) → q.items ≡ option_to_list o ++ rest → o ≡ None → rest ≡ []
-none-left q o rest value same none = by q.items refl
-  where
-    got : (s : Signal) → 0 < q.len → o ≡ Some (get_or q.items 0 s) → ⊥
-    got s lt e = absurd cc
-
-    by : (ss : List Signal) → q.items ≡ ss → rest ≡ []
-    by [] e = sym (ap (λ o. option_to_list o ++ rest) none) ∙ (sym same ∙ e)
-    by (s ∷ ss) e = absurd (got s (omega (arith, ap length e, q.ok.0)) (value s (omega (arith, ap length e, q.ok.0))))
+pub none-left : (signals : List Signal) (o : Option Signal) (rest : List Signal) → (o ≡ None → signals ≡ []) → signals ≡ option_to_list o ++ rest → o ≡ None → rest ≡ []
+none-left signals o rest empty same none = sym (ap (λ o. option_to_list o ++ rest) none) ∙ (sym same ∙ empty none)
 
 pub holds-rest : (heap : Heap) (rest : VecDeque Signal Global) (r : Bool) → r ≡ nat_eq rest.len 0 → r ≡ false → All (HoldsSignal heap) rest.items → HoldsQueue heap (Some rest)
 holds-rest heap rest r e other all = (omega (arith, rest.ok.0, some), all)

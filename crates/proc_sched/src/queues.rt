@@ -1,6 +1,6 @@
 //! The signals that are on their way.
 
-ghost use Rattle.std.specs.Prelude.{◌≡◌, ◌<◌, ◌≤◌, [], ◌∷◌, length, IfOk, OnOk};
+ghost use Rattle.std.specs.Prelude.{◌≡◌, ◌<◌, ◌≤◌, [], ◌∷◌, length, ◌++◌, None, option_to_list, IfOk, OnOk};
 ghost use Rattle.proc_sched.specs.Seen.{HoldsEvent, event_of};
 ghost use Rattle.proc_sched.specs.Stands.{IsNode, Does, world_of};
 ghost use Rattle.proc_sched.specs.Nodes as node;
@@ -39,7 +39,7 @@ impl Node {
         ensures { IfOk result (node.Takes pair self.old self.new) }
     {
         let mut queue = self.take_queue(pair);
-        let signal = queue.pop_front();
+        let signal = take_first(&mut queue);
         if !queue.is_empty() {
             self.queues.insert(pair, queue)?;
         }
@@ -96,4 +96,12 @@ impl Node {
             None => Ok(()),
         }
     }
+}
+
+/// Takes the first of these signals, if there is one.
+fn take_first(signals: &mut VecDeque<Signal>) -> Option<Signal>
+    ensures items { signals.old.items ≡ option_to_list result ++ signals.new.items }
+    ensures none { result ≡ None → signals.old.items ≡ [] }
+{
+    signals.pop_front()
 }

@@ -1,0 +1,4 @@
+pub mod Acting
+pub mod Acts
+pub mod ActsLawful
+pub mod Running
