@@ -97,7 +97,7 @@ pub links-found : (node : Node) (number : ℕ) (slot : Slot) → number < length
 links-found node number slot lt index = ap (λ o. length (links_at o)) (found node number slot lt index)
 
 -- one event behind another
-signals-then : (es ds : List (Event Term)) (queue : Queue) → with_signals (es ++ ds) queue ≡ with_signals ds (with_signals es queue)
+pub signals-then : (es ds : List (Event Term)) (queue : Queue) → with_signals (es ++ ds) queue ≡ with_signals ds (with_signals es queue)
 signals-then [] ds queue = refl
 signals-then (e ∷ es) ds queue = signals-then es ds (with_signal e queue)
 

@@ -37,16 +37,13 @@ use Rattle.proc_sched.specs.Stands.{IsNode, Does, world_of, processes_of, proces
 use Rattle.proc_sched.specs.Systems.{Kept, kept, meant, system_of, HoldsState, IsKept, IsSystem, BecomesSome, IsBehind, GoesBehind, MaySpawn, Spawns, spawned_from, MayFinish, Finishes, finished, process_behind, world_behind, with_fresh}
 use Rattle.proc_sched.specs.Turning.{IsLinked, MayAgree, Agrees}
 use Rattle.proc_sched.proofs.BehindLaw.{ready-there, IsReady}
+use Rattle.proc_sched.proofs.DeliveryLaw.{signals-then}
 use Rattle.proc_sched.proofs.FreedLaw.{freed-lawful}
 use Rattle.proc_sched.proofs.Kept.{kept-events, held-events}
 use Rattle.proc_sched.proofs.RelinkLaw.{get-agreeing, relinked-world, relinked-node}
 use Rattle.proc_sched.proofs.SystemLaw.{states-held, states-same, step}
 
--- ---- signals and links of a definition
-
-pub signals-append : (es fs : List (Event Term)) (queue : Queue) → with_signals fs (with_signals es queue) ≡ with_signals (es ++ fs) queue
-signals-append [] fs queue = refl
-signals-append (e ∷ es) fs queue = signals-append es fs (with_signal e queue)
+-- ---- links of a definition
 
 -- a change at a number that is not linked commutes with changes of links
 pub agreeing-set : (me : ℕ) (old new : List ℕ) (number k : ℕ) (ps : List Process) (q : Process) → me ≡ number + k → holds old me ≡ false → holds new me ≡ false
@@ -138,7 +135,7 @@ module _ (w : World) (me : ℕ) (p : Process) (at : slice_get w.processes me ≡
   runs-whole (Ends reason) is = record {
     events = refl;
     world = ap₂ (λ (ps : List Process) (queue : Queue). record { node = w.node; next_ref = t.view.next_ref; clock = w.clock; processes = ps; queue = queue }) (changed-process (process_after (Ends reason) t.view))
-        (signals-append t.events (end_events me reason t.view.links) w.queue);
+        (sym (signals-then t.events (end_events me reason t.view.links) w.queue));
   }
 
   pub whole : IsWhole t.outcome (finished running me (process_behind t.outcome t.view) t.outcome)

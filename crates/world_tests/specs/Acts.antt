@@ -36,6 +36,7 @@ abbrev pub reason_of : Reason → Term
 reason_of reason.Normal = Atom (codes "normal")
 reason_of reason.Kill = Atom (codes "kill")
 reason_of reason.Boom = Atom (codes "boom")
+reason_of reason.Seven = Int (pos 7)
 
 -- what is seen of an act, how it leaves the process, and what it makes of the view
 pub record Done : Type 0 where

@@ -28,6 +28,8 @@ pub enum Reason {
     Normal,
     Kill,
     Boom,
+    /// The integer 7.
+    Seven,
 }
 
 /// What a process does in one turn, behind which it goes on at the next row.
@@ -344,5 +346,6 @@ fn reason_id(heap: &mut Heap, reason: Reason) -> Result<TermId, AllocError>
         Reason::Normal => heap.atom("normal"),
         Reason::Kill => heap.atom("kill"),
         Reason::Boom => heap.atom("boom"),
+        Reason::Seven => heap.int(7),
     }
 }

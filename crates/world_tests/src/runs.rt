@@ -80,6 +80,16 @@ run 0 1 => signal 0 0 normal; turn 0 5; ready [0]
 deliver 0 0 => hit 0 0 normal; exit 0 normal; ready []
 input 0 late => idle; ready []
 
+rows exit 1 7, link 2, end 7, wait
+start 0 => start 0 {m,f,[0]}; ready [0]
+start 3 => start 1 {m,f,[3]}; ready [0,1]
+start 3 => start 2 {m,f,[3]}; ready [0,1,2]
+run 0 1 => signal 0 1 7; turn 0 1; ready [0,1,2]
+deliver 0 1 => hit 0 1 7; exit 1 7; ready [0,2]
+run 0 1 => turn 0 2; ready [0,2]
+run 0 1 => exit 0 7; broken 0 2 7; turn 0 0; ready [2]
+deliver 0 2 => hit 0 2 7; exit 2 7; ready []
+
 rows exit 1 boom, exit 1 normal, exit 1 kill, trap, wait, receive
 start 0 => start 0 {m,f,[0]}; ready [0]
 start 3 => start 1 {m,f,[3]}; ready [0,1]

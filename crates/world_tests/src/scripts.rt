@@ -21,6 +21,7 @@ fn reason(name: &str) -> Option<Reason> {
         "normal" => Some(Reason::Normal),
         "kill" => Some(Reason::Kill),
         "boom" => Some(Reason::Boom),
+        "7" => Some(Reason::Seven),
         _ => None,
     }
 }
