@@ -1,10 +1,10 @@
 -- What a node stands for stays, as its heap is added to.
-use Rattle.std.proofs.Common.{◌≡◌, ℕ, List, [], ◌∷◌, ◌++◌, length, map, Option, None, Some, refl, sym, ap, ap₂, subst, ◌∙◌, arith}
+use Rattle.std.proofs.Common.{◌≡◌, ℕ, List, [], ◌∷◌, ◌++◌, map, Option, None, Some, refl, sym, ap, ap₂, subst}
 use Rattle.std.specs.BTreeMap.{BTreeMap, get}
 use Rattle.std.specs.List.{All}
 use Rattle.std.specs.declared.alloc.Global.{Global}
 use Rattle.std.specs.declared.collections.VecDeque.{VecDeque}
-use Rattle.std.proofs.lemmas.List.Elements.{All-nil, All-cons, All-head, All-tail, All-weaker}
+use Rattle.std.proofs.lemmas.List.Elements.{All-head, All-tail, All-weaker}
 use Rattle.ej_term.specs.Term.{Term}
 use Rattle.ej_world.specs.declared.effect.Begin.{Begin}
 use Rattle.ej_world.specs.declared.effect.Begin.TheVariants as begin
@@ -14,15 +14,15 @@ use Rattle.ej_world.specs.World as world
 use Rattle.ej_world.specs.World.{Process}
 use Rattle.term_heap.specs.declared.cell.TermId.{TermId}
 use Rattle.term_heap.specs.declared.heap.Heap.{Heap}
-use Rattle.term_heap.specs.Held.{HoldsEach, terms_at}
+use Rattle.term_heap.specs.Held.{HoldsEach}
 use Rattle.term_heap.specs.View.{Holds, term_of, Keeps}
 use Rattle.term_heap.proofs.Kept.{held, kept-term, kept-each, kept-terms}
 use Rattle.proc_sched.specs.declared.node.Node.{Node}
 use Rattle.proc_sched.specs.declared.signal.Signal.{Signal}
 use Rattle.proc_sched.specs.declared.signal.Signal.TheVariants as signal
 use Rattle.proc_sched.specs.declared.slot.Slot.{Slot}
-use Rattle.proc_sched.specs.Seen.{begin_of, HoldsBegin, event_of, HoldsEvent, events_of, HoldsEvents, ids_of, ids_of_begin}
-use Rattle.proc_sched.specs.Stands.{signal_of, HoldsSignal, process_of, processes_of, HoldsSlot, queue_in, queue_of, HoldsQueue, world_of, seen_of, IsNodeBut, Sets, OnlyHeap, IsNode, pair_cmp}
+use Rattle.proc_sched.specs.Seen.{begin_of, event_of, HoldsEvent, events_of, HoldsEvents, ids_of, ids_of_begin}
+use Rattle.proc_sched.specs.Stands.{signal_of, HoldsSignal, process_of, processes_of, HoldsSlot, queue_in, queue_of, HoldsQueue, world_of, IsNodeBut, Sets, OnlyHeap, IsNode, pair_cmp}
 
 -- the same function on each element
 pub map-same : {A B : Type 0} (P : A → Type 0) (f g : A → B) → ((x : A) → P x → f x ≡ g x) → (xs : List A) → All P xs → map f xs ≡ map g xs

@@ -1,12 +1,12 @@
 -- A node behind a change of links: the sets and the live processes stay.
-use Rattle.std.proofs.Common.{◌≡◌, ℕ, zero, suc, ◌+◌, Bool, true, false, List, [], ◌∷◌, ◌++◌, length, Option, None, Some, option_map, refl, sym, ap, ap₂, subst, ◌∙◌, arith}
-use Rattle.std.specs.Prelude.{slice_get, slice_set, if◌then◌else◌}
+use Rattle.std.proofs.Common.{◌≡◌, ℕ, zero, suc, ◌+◌, Bool, true, false, List, [], ◌∷◌, ◌++◌, Option, None, Some, option_map, refl, sym, ap, ap₂, subst, ◌∙◌, arith}
+use Rattle.std.specs.Prelude.{slice_get, if◌then◌else◌}
 use Rattle.ej_world.specs.Choices.{holds, linked_back, agreeing}
-use Rattle.ej_world.specs.World.{Status, Running, Waiting, Ended, World, Process, is_live, is_ready, is_ready_in, numbers_from, with_links}
+use Rattle.ej_world.specs.World.{Status, Running, Waiting, Ended, Process, is_live, is_ready, is_ready_in, numbers_from, with_links}
 use Rattle.proc_sched.specs.declared.node.Node.{Node}
 use Rattle.proc_sched.specs.declared.slot.Slot.{Slot}
-use Rattle.proc_sched.specs.Stands.{IsNode, IsNodeBut, Sets, world_of, processes_of, ready_at, to_come, due_at}
-use Rattle.proc_sched.specs.Turning.{with_slots, Agrees}
+use Rattle.proc_sched.specs.Stands.{IsNode, Sets, world_of, processes_of, ready_at, to_come, due_at}
+use Rattle.proc_sched.specs.Turning.{Agrees}
 use Rattle.proc_sched.proofs.Setting.{SameBut, sets-same}
 
 -- links are nothing to being ready, to a deadline or to being live

@@ -1,8 +1,7 @@
 -- Rounds, as they follow each other.
-use Rattle.std.proofs.Common.{◌≡◌, ℕ, zero, suc, ◌+◌, ◌-◌, ◌<◌, ◌≤◌, Bool, true, false, List, [], ◌∷◌, ◌++◌, length, map, Option, None, Some, option_map, option_and_then, refl, sym, ap, ap₂, subst, ◌∙◌, arith}
+use Rattle.std.proofs.Common.{◌≡◌, ℕ, zero, suc, ◌+◌, ◌-◌, ◌<◌, ◌≤◌, Bool, true, false, List, [], ◌∷◌, ◌++◌, length, Option, None, Some, option_map, option_and_then, refl, sym, ap, ap₂, subst, ◌∙◌, arith}
 use Rattle.std.specs.Prelude.{slice_get, if◌then◌else◌}
-use Rattle.std.specs.List.{AllByRecursion, find}
-use Rattle.std.proofs.lemmas.Bool.{cond_both}
+use Rattle.std.specs.List.{find}
 use Rattle.std.proofs.lemmas.List.{append_assoc, append-nil, length-append, length-map, nil_from_length}
 use Rattle.std.proofs.lemmas.Option.{same_Some}
 use Rattle.ej_term.specs.Term.{Term}
@@ -23,7 +22,7 @@ use Rattle.proc_sched.specs.Calls.{Held, Meant, StaysSame}
 use Rattle.proc_sched.specs.Freed.{freed}
 use Rattle.proc_sched.specs.Seen.{event_of}
 use Rattle.proc_sched.specs.Stands.{world_of, seen_of, ready_at}
-use Rattle.proc_sched.specs.Systems.{Kept, kept, meant, system_of, IsSystem, Becomes, BecomesSome, BecomesIf, DoesStep, still, shows_ready}
+use Rattle.proc_sched.specs.Systems.{Kept, meant, system_of, IsSystem, Becomes, BecomesSome, BecomesIf, DoesStep, still, shows_ready}
 use Rattle.proc_sched.proofs.NodeLaw.{same-heap}
 use Rattle.proc_sched.proofs.SystemLaw.{becomes-then, becomes-closed}
 

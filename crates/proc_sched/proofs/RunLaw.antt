@@ -1,12 +1,12 @@
 -- Each part of a turn may follow the one before it, and together they are the turn of the definition.
-use Rattle.std.proofs.Common.{◌≡◌, ℕ, zero, suc, ◌+◌, ◌<◌, ◌≤◌, Bool, true, false, List, [], ◌∷◌, ◌++◌, length, map, drop, get_or, Option, None, Some, option_map, refl, sym, ap, ap₂, subst, ◌∙◌, arith}
-use Rattle.std.specs.Prelude.{slice_get, slice_set, if◌then◌else◌}
+use Rattle.std.proofs.Common.{◌≡◌, ℕ, ◌≤◌, true, List, [], ◌∷◌, ◌++◌, length, map, drop, get_or, Option, None, Some, option_map, refl, sym, ap, ap₂, subst, ◌∙◌, arith}
+use Rattle.std.specs.Prelude.{slice_get, slice_set}
 use Rattle.std.specs.Global.{Vec}
 use Rattle.std.specs.List.{All}
 use Rattle.std.proofs.Math.Seq.{drop-append_seam}
 use Rattle.std.proofs.lemmas.Bool.{cond-true}
 use Rattle.std.proofs.lemmas.List.Elements.{All-drop}
-use Rattle.std.proofs.lemmas.List.{append_assoc, append-nil, map-append, length-map, length-append, length-set}
+use Rattle.std.proofs.lemmas.List.{append_assoc, map-append, length-map, length-append, length-set}
 use Rattle.std.proofs.lemmas.Option.{slice_get_within, slice_get-map}
 use Rattle.ej_term.specs.Term.{Term}
 use Rattle.ej_world.specs.declared.effect.Begin.{Begin}
@@ -16,11 +16,11 @@ use Rattle.ej_world.specs.Choices as world
 use Rattle.ej_world.specs.Choices.{Code, System, Happened, Turned, Runs, Waits, Ends, agreeing, ending, depth_after, spawned, turned, turn_of, run_process}
 use Rattle.ej_world.specs.Lawful.{States, Lawful, LawfulTurn, MayGiveAll, RisingBelow, made}
 use Rattle.ej_world.specs.Sound.{SoundProcess, Sound}
-use Rattle.ej_world.specs.Steps.{Step, Turns, IsTurn}
+use Rattle.ej_world.specs.Steps.{Turns}
 use Rattle.ej_world.specs.World as worlds
 use Rattle.ej_world.specs.World.{World, Process, Queue, Change, next_pid, is_ready, with_signals}
 use Rattle.ej_world.proofs.Numbers.{within-grows}
-use Rattle.ej_world.proofs.SoundLaw.{lawful_turn, made-length, length-agreeing}
+use Rattle.ej_world.proofs.SoundLaw.{lawful_turn, made-length}
 use Rattle.ej_world.proofs.SoundDelivery.{get_set}
 use Rattle.ej_world.proofs.SoundParts.{all-found}
 use Rattle.term_heap.specs.declared.cell.TermId.{TermId}
@@ -32,10 +32,10 @@ use Rattle.proc_sched.specs.declared.slot.Slot.{Slot}
 use Rattle.proc_sched.specs.declared.view.Outcome.{Outcome}
 use Rattle.proc_sched.specs.Calls.{Held, Meant, StaysSame}
 use Rattle.proc_sched.specs.Freed.{left, freed, freed_after, IsFreed}
-use Rattle.proc_sched.specs.Nodes.{shows, live_at, with_queues, SendsFrom}
-use Rattle.proc_sched.specs.Seen.{events_of, HoldsEvent, HoldsEvents, outcome_of, HoldsOutcome}
+use Rattle.proc_sched.specs.Nodes.{shows, live_at, SendsFrom}
+use Rattle.proc_sched.specs.Seen.{events_of, HoldsEvent, HoldsEvents, outcome_of}
 use Rattle.proc_sched.specs.Stands.{IsNode, Does, world_of, process_of, seen_of, ready_at}
-use Rattle.proc_sched.specs.Systems.{Kept, kept, meant, system_of, HoldsState, IsKept, IsSystem, BecomesSome, IsBehind, GoesBehind, MaySpawn, Spawns, spawned_from, MayFinish, Finishes, finished, process_behind, world_behind, with_fresh}
+use Rattle.proc_sched.specs.Systems.{Kept, kept, meant, system_of, HoldsState, IsKept, IsSystem, BecomesSome, IsBehind, GoesBehind, MaySpawn, Spawns, spawned_from, MayFinish, Finishes, finished, process_behind, with_fresh}
 use Rattle.proc_sched.specs.Turning.{IsLinked, MayAgree, Agrees}
 use Rattle.proc_sched.proofs.BehindLaw.{ready-there, IsReady, slot-found, HasSlot}
 use Rattle.proc_sched.proofs.FreedLaw.{freed-lawful}

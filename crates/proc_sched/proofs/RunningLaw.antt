@@ -1,47 +1,21 @@
 -- A turn of a process, put together of its parts.
-use Rattle.std.proofs.Common.{◌≡◌, ℕ, zero, suc, ◌+◌, ◌<◌, ◌≤◌, Bool, true, false, List, [], ◌∷◌, ◌++◌, length, map, drop, Option, None, Some, option_map, refl, sym, ap, ap₂, subst, ◌∙◌, arith}
-use Rattle.std.specs.Prelude.{slice_get, slice_set, if◌then◌else◌}
-use Rattle.std.specs.Global.{Vec}
-use Rattle.std.specs.List.{All}
-use Rattle.std.proofs.Math.Seq.{drop-append_seam}
-use Rattle.std.proofs.lemmas.Bool.{cond-true}
-use Rattle.std.proofs.lemmas.List.{append_assoc, append-nil, map-append, length-map, length-append, length-set}
-use Rattle.std.proofs.lemmas.Option.{slice_get_within, slice_get-map}
-use Rattle.ej_term.specs.Term.{Term}
-use Rattle.ej_world.specs.declared.event.Event.{Event}
-use Rattle.ej_world.specs.declared.event.Event.TheVariants as event
+use Rattle.std.proofs.Common.{◌≡◌, ℕ, zero, suc, ◌+◌, Bool, true, false, List, [], ◌∷◌, ◌++◌, map, Some, option_map, refl, sym, ap, ap₂, subst, ◌∙◌, arith}
+use Rattle.std.specs.Prelude.{slice_get, slice_set}
+use Rattle.std.proofs.lemmas.List.{append-nil}
 use Rattle.ej_world.specs.Choices as world
 use Rattle.ej_world.specs.Choices.{Code, System, Happened, Turned, Runs, Waits, Ends, holds, linked_back, agreeing, process_after, ending, depth_after, spawned, turned, turn_of, run_process}
-use Rattle.ej_world.specs.Lawful.{States, Lawful, LawfulTurn, RisingBelow, made}
-use Rattle.ej_world.specs.Sound.{Sound}
-use Rattle.ej_world.specs.Steps.{Step, Turns, IsTurn}
 use Rattle.ej_world.specs.World as worlds
 use Rattle.ej_world.specs.World.{World, Process, Queue, Change, next_pid, is_ready, is_live, with_process, with_status, end_events, sending, with_signals, with_signal}
-use Rattle.ej_world.proofs.Numbers.{within-grows}
-use Rattle.ej_world.proofs.SoundLaw.{lawful_turn, made-length, length-agreeing}
 use Rattle.ej_world.proofs.SoundDelivery.{get_set}
-use Rattle.ej_world.proofs.SoundParts.{all-found}
-use Rattle.term_heap.specs.declared.cell.TermId.{TermId}
 use Rattle.term_heap.specs.declared.heap.Heap.{Heap}
 use Rattle.term_heap.specs.View.{Keeps}
 use Rattle.term_heap.proofs.Kept.{held, kept-term}
-use Rattle.proc_sched.specs.declared.node.Node.{Node}
-use Rattle.proc_sched.specs.declared.slot.Slot.{Slot}
 use Rattle.proc_sched.specs.declared.view.Outcome.{Outcome}
 use Rattle.proc_sched.specs.declared.view.Outcome.TheVariants as outcome
-use Rattle.proc_sched.specs.Calls.{Held, Meant, StaysSame}
-use Rattle.proc_sched.specs.Freed.{left, freed, freed_after, IsFreed}
-use Rattle.proc_sched.specs.Nodes.{shows, live_at, with_queues, SendsFrom}
-use Rattle.proc_sched.specs.Seen.{events_of, outcome_of, HoldsOutcome}
-use Rattle.proc_sched.specs.Stands.{IsNode, Does, world_of, processes_of, process_of, seen_of}
-use Rattle.proc_sched.specs.Systems.{Kept, kept, meant, system_of, HoldsState, IsKept, IsSystem, BecomesSome, IsBehind, GoesBehind, MaySpawn, Spawns, spawned_from, MayFinish, Finishes, finished, process_behind, world_behind, with_fresh}
-use Rattle.proc_sched.specs.Turning.{IsLinked, MayAgree, Agrees}
-use Rattle.proc_sched.proofs.BehindLaw.{ready-there, IsReady}
+use Rattle.proc_sched.specs.Seen.{outcome_of, HoldsOutcome}
+use Rattle.proc_sched.specs.Systems.{finished, process_behind}
 use Rattle.proc_sched.proofs.DeliveryLaw.{signals-then}
-use Rattle.proc_sched.proofs.FreedLaw.{freed-lawful}
-use Rattle.proc_sched.proofs.Kept.{kept-events, held-events}
-use Rattle.proc_sched.proofs.RelinkLaw.{get-agreeing, relinked-world, relinked-node}
-use Rattle.proc_sched.proofs.SystemLaw.{states-held, states-same, step}
+use Rattle.proc_sched.proofs.RelinkLaw.{get-agreeing}
 
 -- ---- links of a definition
 

@@ -8,7 +8,7 @@ use Rattle.ej_world.specs.Lawful.{States, Lawful, AreAsked}
 use Rattle.ej_world.specs.Order.{InOrder}
 use Rattle.ej_world.specs.Runs.{Choice, run}
 use Rattle.ej_world.proofs.OrderLaw.{run_in_order}
-use Rattle.proc_sched.specs.Choose.{Seen, Makes, MakesAll}
+use Rattle.proc_sched.specs.Choose.{Seen, MakesAll}
 
 -- nothing is added
 none-added : {X : Type 0} (xs ys : List X) → xs ≡ xs ++ ys → ys ≡ []

@@ -1,5 +1,5 @@
 -- The sets of ready processes and of deadlines, as a process leaves them and enters them.
-use Rattle.std.proofs.Common.{◌≡◌, ℕ, zero, suc, ◌+◌, ◌<◌, ◌≤◌, Bool, true, false, not, nat_eq, nat_lt, ◌&&◌, ◌||◌, ◌⊎◌, inl, inr, List, [], ◌∷◌, ◌++◌, length, Option, None, Some, refl, sym, ap, ap₂, subst, ◌∙◌, arith}
+use Rattle.std.proofs.Common.{◌≡◌, ℕ, zero, suc, ◌+◌, ◌<◌, ◌≤◌, Bool, true, false, not, nat_eq, nat_lt, ◌&&◌, ◌||◌, ◌⊎◌, inl, inr, List, [], ◌∷◌, length, Option, None, Some, refl, sym, ap, ap₂, subst, ◌∙◌, arith}
 use Rattle.std.specs.Prelude.{slice_get, slice_set, cond}
 use Rattle.std.specs.BTreeMap.{is_at}
 use Rattle.std.specs.BTreeSet.{BTreeSet, contains, IsOrdered}
@@ -8,13 +8,13 @@ use Rattle.std.specs.List.Sorted.{IsStrictlySortedBy}
 use Rattle.std.specs.Ordering.{nat_cmp, ordering_then, is_eq}
 use Rattle.std.specs.declared.cmp.Ordering.{Ordering}
 use Rattle.std.specs.declared.cmp.Ordering.TheVariants.{Less, Equal, Greater}
-use Rattle.std.proofs.lemmas.Bool.{ltb-true, ltb-false, lt-ltb, le-ltb, eq-eqb, eqb-true, eqb-false, ne_eqb, cond_both, cond-true, cond-false, and_left, cases_order, cases_eq}
+use Rattle.std.proofs.lemmas.Bool.{ltb-true, lt-ltb, le-ltb, eq-eqb, ne_eqb, cond-true, cond-false, cases_order, cases_eq}
 use Rattle.std.proofs.lemmas.Map.Keys.{sorted_head, sorted_tail}
 use Rattle.ej_world.specs.Choices.{holds}
-use Rattle.ej_world.specs.World.{Process, is_ready, numbers_from, fresh}
+use Rattle.ej_world.specs.World.{Process, is_ready, numbers_from}
 use Rattle.ej_world.proofs.Numbers.{within-numbers}
 use Rattle.proc_sched.specs.Stands.{Rising, RisingFrom, is_in, ready_at, due_at, waits_for, is_deadline, pair_cmp, IsReadySet, IsDeadlineSet, Sets}
-use Rattle.proc_sched.proofs.Rises.{rising-within, rising-least, holds-below}
+use Rattle.proc_sched.proofs.Rises.{rising-within, holds-below}
 
 -- ---- what a comparison finds
 
@@ -54,17 +54,6 @@ abbrev pub HasPair : (deadline number : ℕ) → (b : Bool) → (old new : BTree
 HasPair deadline number b old new = (q : ℕ × ℕ) → contains pair_cmp new q ≡ cond (is_at (pair_cmp (deadline, number)) q) b (contains pair_cmp old q)
 
 module _ (clock : ℕ) (ps : List Process) (number : ℕ) where
-  pub ready-leaves : (old new : BTreeSet ℕ) → Has number false old new → IsReadySet None clock ps old → IsReadySet (Some number) clock ps new
-  ready-leaves old new has set n = by (cases_eq n number)
-    where
-      by : (n ≡ number) ⊎ (n ≡ number → ⊥) → contains nat_cmp new n ≡ (not (nat_eq n number) && ready_at clock (slice_get ps n))
-      by (inl e) =
-          has n ∙ cond-true (is_at (nat_cmp number) n) false (contains nat_cmp old n) (at-number number n ∙ eq-eqb number n (sym e))
-          ∙ sym (ap (λ b. not b && ready_at clock (slice_get ps n)) (eq-eqb n number e))
-      by (inr ne) =
-          has n ∙ cond-false (is_at (nat_cmp number) n) false (contains nat_cmp old n) (at-number number n ∙ ne_eqb number n (λ e. ne (sym e)))
-          ∙ (set n ∙ sym (ap (λ b. not b && ready_at clock (slice_get ps n)) (ne_eqb n number ne)))
-
   pub ready-stays-out : (old : BTreeSet ℕ) → ready_at clock (slice_get ps number) ≡ false → IsReadySet (Some number) clock ps old → IsReadySet None clock ps old
   ready-stays-out old not_ready set n = by (cases_eq n number)
     where

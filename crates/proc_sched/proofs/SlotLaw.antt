@@ -1,5 +1,5 @@
 -- What a node stands for, as the slot of one process changes.
-use Rattle.std.proofs.Common.{◌≡◌, ℕ, zero, suc, ◌+◌, ◌<◌, Bool, true, false, not, nat_eq, List, [], ◌∷◌, ◌++◌, length, map, get_or, Option, None, Some, refl, sym, ap, ap₂, subst, ◌∙◌, arith, ◌⊎◌, inl, inr}
+use Rattle.std.proofs.Common.{◌≡◌, ℕ, zero, suc, ◌+◌, ◌<◌, Bool, true, false, not, nat_eq, List, [], ◌∷◌, length, get_or, Option, None, Some, refl, sym, ap, subst, ◌∙◌, arith, ◌⊎◌, inl, inr}
 use Rattle.std.specs.Prelude.{slice_get, slice_set, unwrap_or, option_map, if◌then◌else◌}
 use Rattle.std.specs.BTreeSet.{BTreeSet}
 use Rattle.std.specs.Global.{Vec}
@@ -10,7 +10,7 @@ use Rattle.std.proofs.lemmas.List.Elements.{All-set, All-push, All-get_or}
 use Rattle.std.proofs.lemmas.Option.{slice_get-map, slice_get_read, slice_get_within}
 use Rattle.ej_world.specs.Choices.{holds, without_number}
 use Rattle.ej_world.specs.Delivery.{without_link, is_linked}
-use Rattle.ej_world.specs.World.{Process, Status, Running, Waiting, Ended, World, is_live, is_ready_in, numbers_from, with_process, with_links, with_message, with_status}
+use Rattle.ej_world.specs.World.{Process, Status, Running, Waiting, Ended, is_live, is_ready_in, numbers_from, with_process, with_links, with_message, with_status}
 use Rattle.ej_world.proofs.SoundDelivery.{get_set}
 use Rattle.ej_term.specs.Term.{Term}
 use Rattle.mailbox.specs.Mailbox.{Seen, pushed}
@@ -21,8 +21,8 @@ use Rattle.proc_sched.specs.declared.node.Node.{Node}
 use Rattle.proc_sched.specs.declared.slot.Slot.{Slot}
 use Rattle.proc_sched.specs.declared.slot.Status as slot
 use Rattle.proc_sched.specs.declared.slot.Status.TheVariants as status
-use Rattle.proc_sched.specs.Nodes.{live_at, shows, DoesAlone, Unlinks, unlinked, Buries, Leaves, Enters, with_sets, SetsOf}
-use Rattle.proc_sched.specs.Stands.{Sets, IsNode, Does, HoldsSlot, Rising, process_of, processes_of, world_of, queue_of, seen_of, ready_at, due_at, to_come_in}
+use Rattle.proc_sched.specs.Nodes.{live_at, shows, DoesAlone, Unlinks, Buries, Leaves, Enters, SetsOf}
+use Rattle.proc_sched.specs.Stands.{Sets, IsNode, Does, HoldsSlot, Rising, process_of, processes_of, world_of, queue_of, seen_of, ready_at, due_at}
 use Rattle.proc_sched.proofs.NodeLaw.{same-heap}
 use Rattle.proc_sched.proofs.Rises.{without-below, rising-without}
 use Rattle.proc_sched.proofs.Setting.{SameBut, sets-same, same-set, set-other, rising-numbers, ready-stays-out, deadline-stays-out}

@@ -1,10 +1,10 @@
 -- Processes that begin, and messages that are put in.
-use Rattle.std.proofs.Common.{◌≡◌, ℕ, zero, suc, ◌+◌, ◌<◌, ◌≤◌, Bool, true, false, nat_lt, nat_le, List, [], ◌∷◌, ◌++◌, length, map, Option, None, Some, option_map, option_and_then, refl, sym, ap, ap₂, subst, ◌∙◌, arith}
-use Rattle.std.specs.Prelude.{slice_get, slice_set, if◌then◌else◌}
+use Rattle.std.proofs.Common.{◌≡◌, ℕ, ◌<◌, true, nat_lt, List, [], ◌∷◌, ◌++◌, map, Option, None, Some, option_map, option_and_then, refl, sym, ap, ap₂, subst, ◌∙◌}
+use Rattle.std.specs.Prelude.{slice_get}
 use Rattle.std.specs.Global.{Vec}
 use Rattle.std.specs.List.{All}
 use Rattle.std.proofs.lemmas.Bool.{lt-ltb, cond-true}
-use Rattle.std.proofs.lemmas.List.{append-nil, append_assoc, map_push}
+use Rattle.std.proofs.lemmas.List.{append-nil, map_push}
 use Rattle.std.proofs.lemmas.List.Elements.{All-nil, All-cons, All-push}
 use Rattle.ej_term.specs.Term.{Term}
 use Rattle.ej_world.specs.declared.effect.Begin.{Begin}
@@ -12,10 +12,10 @@ use Rattle.ej_world.specs.declared.effect.Begin.TheVariants as begin
 use Rattle.ej_world.specs.declared.event.Event.{Event}
 use Rattle.ej_world.specs.declared.event.Event.TheVariants as event
 use Rattle.ej_world.specs.Choices.{Code, System, Happened, of_change, start, put_in, input_to}
-use Rattle.ej_world.specs.Lawful.{States, Lawful, IsBegin}
+use Rattle.ej_world.specs.Lawful.{States, Lawful}
 use Rattle.ej_world.specs.Sound.{Sound}
-use Rattle.ej_world.specs.Steps.{Step, Starts, Inputs}
-use Rattle.ej_world.specs.World.{World, Process, Change, next_pid, limit, fresh, is_live, with_process, with_message}
+use Rattle.ej_world.specs.Steps.{Starts, Inputs}
+use Rattle.ej_world.specs.World.{World, Process, Change, next_pid, limit, is_live, with_process, with_message}
 use Rattle.term_heap.specs.declared.cell.TermId.{TermId}
 use Rattle.term_heap.specs.declared.heap.Heap.{Heap}
 use Rattle.term_heap.specs.View.{Keeps, Holds, term_of}
@@ -27,11 +27,11 @@ use Rattle.proc_sched.specs.Freed.{freed, IsFreed}
 use Rattle.proc_sched.specs.Nodes as nodes
 use Rattle.proc_sched.specs.Nodes.{shows, with_next, live_at, PutsIn}
 use Rattle.proc_sched.specs.Seen.{begin_of, HoldsBegin, ids_of_begin, event_of, events_of}
-use Rattle.proc_sched.specs.Stands.{IsNode, IsNodeBut, Does, world_of, seen_of}
-use Rattle.proc_sched.specs.Systems.{Kept, kept, meant, system_of, HoldsState, IsKept, IsSystem, Becomes, BecomesSome, Adds}
+use Rattle.proc_sched.specs.Stands.{IsNodeBut, Does, world_of, seen_of}
+use Rattle.proc_sched.specs.Systems.{kept, meant, system_of, HoldsState, IsKept, IsSystem, BecomesSome, Adds}
 use Rattle.proc_sched.proofs.Kept.{with_heap, kept-but, kept-world-but, kept-begin, kept-events}
 use Rattle.proc_sched.proofs.NodeLaw.{does-then}
-use Rattle.proc_sched.proofs.SystemLaw.{states-held, states-same, becomes, becomes-does, step}
+use Rattle.proc_sched.proofs.SystemLaw.{states-held, states-same, becomes-does, step}
 
 -- the process is there
 pub record IsLive (o : Option Process) : Type 0 where

@@ -1,17 +1,14 @@
 -- What a running system stands for, as its heap grows and as changes follow each other.
-use Rattle.std.proofs.Common.{◌≡◌, ℕ, zero, suc, ◌+◌, ◌<◌, ◌≤◌, Bool, true, false, nat_lt, nat_le, List, [], ◌∷◌, ◌++◌, length, map, Option, None, Some, option_map, option_and_then, refl, sym, ap, ap₂, subst, ◌∙◌, arith}
-use Rattle.std.specs.Prelude.{slice_get, slice_set, if◌then◌else◌, min}
+use Rattle.std.proofs.Common.{◌≡◌, ℕ, ◌≤◌, Bool, true, false, List, [], ◌∷◌, ◌++◌, map, Option, None, Some, option_map, refl, sym, ap, ap₂, subst, ◌∙◌}
 use Rattle.std.specs.List.{All}
 use Rattle.std.proofs.lemmas.List.{append_assoc, append-nil}
-use Rattle.std.proofs.lemmas.List.Elements.{All-nil, All-cons, All-head, All-tail, All-weaker, All-push}
-use Rattle.ej_term.specs.Term.{Term}
-use Rattle.ej_world.specs.declared.event.Event.{Event}
+use Rattle.std.proofs.lemmas.List.Elements.{All-nil, All-head, All-tail, All-weaker}
 use Rattle.ej_world.specs.declared.event.Event.TheVariants as event
-use Rattle.ej_world.specs.Choices.{Code, System, Happened, of_change, closed, nothing, or_nothing, delivered, at_clock, put_in, input_to}
+use Rattle.ej_world.specs.Choices.{Code, System, Happened, of_change, closed, nothing, or_nothing, delivered, at_clock}
 use Rattle.ej_world.specs.Delivery.{deliver}
 use Rattle.ej_world.specs.Lawful.{States, Lawful}
 use Rattle.ej_world.specs.Sound.{Sound}
-use Rattle.ej_world.specs.Steps.{Step, Idles, Closes, Delivers, Clocks, Inputs}
+use Rattle.ej_world.specs.Steps.{Step, Delivers, Clocks}
 use Rattle.ej_world.specs.World as world
 use Rattle.ej_world.specs.World.{World, Process, Change, ready, limit, is_live}
 use Rattle.ej_world.proofs.SoundLaw.{step-sound, empty_sound}
@@ -21,9 +18,9 @@ use Rattle.term_heap.proofs.Kept.{keeps-then}
 use Rattle.proc_sched.specs.declared.node.Node.{Node}
 use Rattle.proc_sched.specs.Calls.{Held, Meant, StaysSame}
 use Rattle.proc_sched.specs.Freed.{freed, IsFreed}
-use Rattle.proc_sched.specs.Nodes.{shows, clocks, DoesSome, DoesIf}
+use Rattle.proc_sched.specs.Nodes.{shows, clocks, DoesIf}
 use Rattle.proc_sched.specs.Stands.{IsNode, Does, OnlyHeap, world_of, seen_of}
-use Rattle.proc_sched.specs.Systems.{Kept, kept, meant, system_of, HoldsState, IsKept, IsSystem, Becomes, BecomesSome, BecomesIf, still, shows_ready}
+use Rattle.proc_sched.specs.Systems.{Kept, kept, meant, system_of, HoldsState, IsSystem, Becomes, BecomesSome, BecomesIf, still, shows_ready}
 use Rattle.proc_sched.proofs.FreedLaw.{freed-lawful}
 
 module _ {State S : Type 0} (Holds' : Held State) (means : Meant State S) (IsState : States S) (stays : StaysSame Holds' means) where

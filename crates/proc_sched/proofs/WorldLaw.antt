@@ -1,14 +1,12 @@
 -- What a choice makes of a system, and of what a world would show.
-use Rattle.std.proofs.Common.{◌≡◌, ℕ, Bool, true, false, List, [], ◌∷◌, ◌++◌, map, Option, None, Some, option_map, refl, sym, ap, ap₂, subst, ◌∙◌}
+use Rattle.std.proofs.Common.{◌≡◌, ℕ, Bool, List, [], map, Option, option_map, ap, ◌∙◌}
 use Rattle.std.specs.Prelude.{Result, Ok, Err}
 use Rattle.std.specs.List.{list_any}
 use Rattle.ej_term.specs.declared.asm_term.AsmTerm.{AsmTerm}
 use Rattle.ej_term.specs.AsmValue.{value, every, has_opaque}
-use Rattle.ej_term.specs.Term.{Term}
 use Rattle.ej_world.specs.declared.choice.Choice.{Choice}
 use Rattle.ej_world.specs.declared.choice.Choice.TheVariants as choice
-use Rattle.ej_world.specs.declared.event.Event.{Event}
-use Rattle.ej_world.specs.Choices.{Code, System, Happened}
+use Rattle.ej_world.specs.Choices.{Code, System}
 use Rattle.ej_world.specs.Lawful.{States}
 use Rattle.ej_world.specs.Runs as run
 use Rattle.ej_world.specs.Runs.{run_from}

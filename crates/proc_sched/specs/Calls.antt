@@ -1,9 +1,8 @@
 -- What a code's calls are asked and what they answer, over what its states stand for under a heap.
-use Rattle.std.specs.Prelude.{◌≡◌, ℕ, ◌≤◌, true, List, [], ◌∷◌, ◌++◌}
+use Rattle.std.specs.Prelude.{◌≡◌, ℕ, ◌≤◌, true, List, ◌++◌}
 use Rattle.ej_world.specs.declared.effect.Begin.{Begin}
 use Rattle.ej_world.specs.declared.event.Event.{Event}
 use Rattle.ej_world.specs.Agree.{may_turn}
-use Rattle.ej_world.specs.Choices as world
 use Rattle.ej_world.specs.Choices.{Code, Turned}
 use Rattle.ej_world.specs.Lawful.{States, MeetsView, IsBegin}
 use Rattle.ej_world.specs.World.{Status}
@@ -13,7 +12,7 @@ use Rattle.term_heap.specs.View.{Keeps}
 use Rattle.proc_sched.specs.declared.view.View.{View}
 use Rattle.proc_sched.specs.declared.view.Outcome.{Outcome}
 use Rattle.proc_sched.specs.declared.view.Outcome.TheVariants as outcome
-use Rattle.proc_sched.specs.Seen.{begin_of, HoldsBegin, events_of, HoldsEvents, view_of, HoldsView, outcome_of, HoldsOutcome}
+use Rattle.proc_sched.specs.Seen.{begin_of, HoldsBegin, events_of, view_of, HoldsView, outcome_of, HoldsOutcome}
 
 -- ---- beginnings
 

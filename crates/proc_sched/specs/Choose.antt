@@ -1,7 +1,6 @@
 -- What a choice is, what a world is seen as, and what a choice does to it.
-use Rattle.std.specs.Prelude.{◌≡◌, ℕ, ◌≤◌, Bool, true, false, List, [], ◌∷◌, ◌++◌, length, map, Option, None, Some, option_map, Result, Ok, Err}
+use Rattle.std.specs.Prelude.{◌≡◌, ◌≤◌, Bool, true, false, List, [], ◌∷◌, ◌++◌, length, map, Option, Some, option_map, Result, Ok, Err}
 use Rattle.std.specs.List.{list_any}
-use Rattle.ej_term.specs.declared.asm_term.AsmTerm.{AsmTerm}
 use Rattle.ej_term.specs.AsmValue.{value, every, has_opaque}
 use Rattle.ej_term.specs.Term.{Term}
 use Rattle.ej_world.specs.declared.choice.Choice.{Choice}

@@ -2,7 +2,6 @@
 use Rattle.std.specs.Prelude.{ℕ, [], Option, None, Some}
 use Rattle.ej_world.specs.Choices.{View, Outcome, Waits, Ends, Turned, Code}
 use Rattle.ej_world.specs.Lawful.{States}
-use Rattle.ej_world.specs.World.{Status}
 
 -- what is kept of a state behind a turn
 abbrev pub left : {S : Type 0} → Outcome → S → Option S

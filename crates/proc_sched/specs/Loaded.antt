@@ -1,5 +1,5 @@
 -- What loading a call's terms answers.
-use Rattle.std.specs.Prelude.{◌≡◌, ℕ, Bool, true, List, map, Some, Result, Ok, Err}
+use Rattle.std.specs.Prelude.{◌≡◌, ℕ, true, List, map, Some, Result, Ok, Err}
 use Rattle.std.specs.List.{list_any}
 use Rattle.ej_term.specs.declared.asm_term.AsmTerm.{AsmTerm}
 use Rattle.ej_term.specs.AsmValue.{value, every, has_opaque}

@@ -1,5 +1,5 @@
 -- What the calls on a node make of it.
-use Rattle.std.specs.Prelude.{◌≡◌, ℕ, ◌≤◌, ◌&&◌, nat_eq, if◌then◌else◌, Bool, true, false, List, [], ◌∷◌, ◌++◌, codes, drop, length, map, slice_get, slice_index_or, Option, None, Some}
+use Rattle.std.specs.Prelude.{◌≡◌, ℕ, ◌≤◌, ◌&&◌, nat_eq, if◌then◌else◌, Bool, true, false, List, [], ◌∷◌, ◌++◌, codes, drop, map, slice_get, slice_index_or, Option, None, Some}
 use Rattle.std.specs.BTreeMap.{BTreeMap, get}
 use Rattle.std.specs.BTreeSet.{BTreeSet}
 use Rattle.std.specs.List.{All}
@@ -14,12 +14,11 @@ use Rattle.ej_world.specs.Sound.{SoundQueue}
 use Rattle.ej_world.specs.World as world
 use Rattle.ej_world.specs.World.{World, Process, Change, next_pid, is_live, with_process, with_message, with_status}
 use Rattle.term_heap.specs.declared.cell.TermId.{TermId}
-use Rattle.term_heap.specs.declared.heap.Heap.{Heap}
 use Rattle.term_heap.specs.View.{Stands, term_of}
 use Rattle.proc_sched.specs.declared.node.Node.{Node}
 use Rattle.proc_sched.specs.declared.signal.Signal.{Signal}
 use Rattle.proc_sched.specs.Seen.{event_of, events_of}
-use Rattle.proc_sched.specs.Stands.{Sets, IsReadySet, IsDeadlineSet, pair_cmp, IsNode, IsNodeBut, Does, OnlyHeap, world_of, processes_of, queue_of, seen_of, signal_of, HoldsSignal}
+use Rattle.proc_sched.specs.Stands.{Sets, IsReadySet, IsDeadlineSet, pair_cmp, IsNode, IsNodeBut, Does, OnlyHeap, world_of, processes_of, queue_of, signal_of, HoldsSignal}
 
 -- the process is there, and has not ended
 abbrev pub live_at : Option Process → Bool

@@ -1,5 +1,5 @@
 -- What is kept under a heap, as what it stands for: each id is read as its term.
-use Rattle.std.specs.Prelude.{ℕ, List, [], ◌∷◌, length, map}
+use Rattle.std.specs.Prelude.{List, [], ◌∷◌, map}
 use Rattle.std.specs.List.{All}
 use Rattle.ej_term.specs.Term.{Term}
 use Rattle.ej_world.specs.declared.effect.Begin.{Begin}

@@ -1,5 +1,5 @@
 -- The processes that are kept, and the signals between them, as what they stand for.
-use Rattle.std.specs.Prelude.{◌≡◌, ℕ, ◌+◌, ◌≤◌, Bool, true, false, not, ◌&&◌, nat_eq, nat_lt, if◌then◌else◌, List, [], ◌∷◌, ◌++◌, length, map, slice_get, Option, None, Some, option_map, IfSome}
+use Rattle.std.specs.Prelude.{◌≡◌, ℕ, ◌+◌, ◌≤◌, Bool, true, false, not, ◌&&◌, nat_eq, nat_lt, if◌then◌else◌, List, [], ◌∷◌, ◌++◌, length, map, slice_get, Option, None, Some}
 use Rattle.std.specs.BTreeMap.{BTreeMap, get}
 use Rattle.std.specs.BTreeSet.{BTreeSet, contains}
 use Rattle.std.specs.List.{All}
@@ -11,7 +11,6 @@ use Rattle.ej_term.specs.Term.{Term}
 use Rattle.ej_world.specs.declared.event.Event.{Event}
 use Rattle.ej_world.specs.World as world
 use Rattle.ej_world.specs.World.{World, Process, Queue, Change, is_ready, next_pid}
-use Rattle.term_heap.specs.declared.cell.TermId.{TermId}
 use Rattle.term_heap.specs.declared.heap.Heap.{Heap}
 use Rattle.term_heap.specs.Held.{HoldsEach, terms_at}
 use Rattle.term_heap.specs.View.{Holds, term_of, Keeps}
